@@ -1,0 +1,4 @@
+pub mod Table
+pub mod Step
+pub mod Chain
+pub mod Laws

@@ -1,0 +1,39 @@
+-- Laws of one band: prices and positions by its step.
+-- Assumes nothing.
+use mathlib.Core.Bool.{true}
+use mathlib.Core.Path.{_≡_, refl, ap, sym, _∙_}
+use Prim.Native.Nat.{ℕ, _+_, _-_, _*_, _/_, _%_, _≤_, _<_}
+use native.Mathlib.Nat.{mul-comm, mul-lt-mul-of-pos-left, div-lt-iff-lt-mul, mul-div-cancel-left, mul-mod-right, div-add-mod}
+use native.Mathlib.Omega.{arith}
+use borrow.Author.Tests.{eq-eqb, eqb-true}
+use Rattle.ladder.specs.declared.Band.{Band}
+use Rattle.ladder.specs.Ladder.{onStep, positionIn, priceIn}
+
+module _ (b : Band) (steps : 0 < b .step) where
+  pub price-grows : (j k : ℕ) → b .first ≤ j → j < k → priceIn b j < priceIn b k
+  price-grows j k starts later =
+      omega (arith, mul-lt-mul-of-pos-left {m = j - b .first} {n = k - b .first} {k = b .step} (omega arith) steps)
+
+  pub position-below : (p k : ℕ) → b .from ≤ p → b .first ≤ k → p < priceIn b k → positionIn b p < k
+  position-below p k from first below =
+      let scaled : p - b .from < (k - b .first) * b .step = omega (arith, mul-comm (k - b .first) (b .step)) in
+      omega (arith, div-lt-iff-lt-mul {k = b .step} {x = p - b .from} {y = k - b .first} steps .1 scaled)
+
+  above-first : (k : ℕ) → priceIn b k - b .from ≡ b .step * (k - b .first)
+  above-first k = omega arith
+
+  pub position-price : (k : ℕ) → b .first ≤ k → positionIn b (priceIn b k) ≡ k
+  position-price k first =
+      let quotient : (priceIn b k - b .from) / b .step ≡ k - b .first = ap (λ (n : ℕ). n / b .step) (above-first k) ∙ mul-div-cancel-left (k - b .first) steps in
+      omega arith
+
+  pub price-on-step : (k : ℕ) → onStep b (priceIn b k) ≡ true
+  price-on-step k = eq-eqb _ 0 (ap (λ (n : ℕ). n % b .step) (above-first k) ∙ mul-mod-right (b .step) (k - b .first))
+
+  pub price-position : (p : ℕ) → b .from ≤ p → onStep b p ≡ true → priceIn b (positionIn b p) ≡ p
+  price-position p from on =
+      let above : positionIn b p - b .first ≡ (p - b .from) / b .step = omega arith in
+      let whole : b .step * ((p - b .from) / b .step) + (p - b .from) % b .step ≡ p - b .from = div-add-mod (p - b .from) (b .step) in
+      let none : (p - b .from) % b .step ≡ 0 = eqb-true _ 0 on in
+      let same : b .step * (positionIn b p - b .first) ≡ b .step * ((p - b .from) / b .step) = ap (λ (n : ℕ). b .step * n) above in
+      omega arith

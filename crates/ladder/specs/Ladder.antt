@@ -1,0 +1,40 @@
+-- Paper 01, "Prices and the ladder": what the table of bands says of a price and of a position.
+use mathlib.Core.Bool.{Bool, true, false, cond, _&&_}
+use mathlib.Core.List.{List, [], _∷_}
+use Prim.Native.Nat.{ℕ, _+_, _-_, _*_, _/_, _%_}
+use lib.Dec.{leb, eqb}
+use Rattle.ladder.specs.declared.Band.{Band}
+use Rattle.ladder.specs.declared.Position.{Position}
+use Rattle.ladder.specs.declared.Position.the-variants.{At, Off}
+use Rattle.ladder.specs.Bands.{lowest, higher, firstPrice, lastPrice, positions}
+
+-- the last of the bands, b first, whose key is at most n
+unfoldable pub lastBand : (Band → ℕ) → ℕ → Band → List Band → Band
+lastBand key n b [] = b
+lastBand key n b (c ∷ cs) = cond (leb (key c) n) (lastBand key n c cs) b
+
+unfoldable pub bandOfPrice : ℕ → Band
+bandOfPrice p = lastBand (λ b. b .from) p lowest higher
+
+unfoldable pub bandOfPosition : ℕ → Band
+bandOfPosition k = lastBand (λ b. b .first) k lowest higher
+
+-- a price of the band: a whole number of steps above its first
+abbrev pub onStep : Band → ℕ → Bool
+onStep b p = eqb ((p - b .from) % b .step) 0
+
+abbrev pub positionIn : Band → ℕ → ℕ
+positionIn b p = b .first + (p - b .from) / b .step
+
+abbrev pub priceIn : Band → ℕ → ℕ
+priceIn b k = b .from + b .step * (k - b .first)
+
+unfoldable pub legal : ℕ → Bool
+legal p = leb firstPrice p && leb p lastPrice && onStep (bandOfPrice p) p
+
+unfoldable pub positionOf : ℕ → Position
+positionOf p = cond (legal p) (At (positionIn (bandOfPrice p) p)) Off
+
+-- 0, the absent price, for a number that is no position
+unfoldable pub priceAt : ℕ → ℕ
+priceAt k = cond (leb 1 k && leb k positions) (priceIn (bandOfPosition k) k) 0

@@ -1,0 +1,136 @@
+// Paper 01, "Prices and the ladder": which prices are legal, and at which position each stands.
+ghost use mathlib.Core.Path.{_≡_};
+ghost use Prim.Native.Nat.{_≤_};
+ghost use Rattle.ladder.specs.Ladder.{bandOfPrice, legal, positionOf, priceAt};
+
+mod prices;
+
+use prices::PRICES;
+
+// A row of the paper's table: the first price and the step in satang, and the position of the first price.
+pub struct Band {
+    pub from: u32,
+    pub step: u32,
+    pub first: u32,
+}
+
+pub enum Position {
+    At(u32),
+    Off,
+}
+
+pub struct Ladder {}
+
+impl Ladder {
+    pub const FIRST_PRICE: u32 = 1;
+
+    pub const LAST_PRICE: u32 = 10_000_000;
+
+    pub const POSITIONS: u32 = 51_100;
+
+    pub fn legal(price: u32) -> bool
+        ensures { λ r. ⌜ r ≡ legal price ⌝ }
+    {
+        if price < Ladder::FIRST_PRICE {
+            return false;
+        }
+        if Ladder::LAST_PRICE < price {
+            return false;
+        }
+        let band = band_of(price);
+        (price - band.from) % band.step == 0
+    }
+
+    pub fn position(price: u32) -> Position
+        ensures { λ r. ⌜ r ≡ positionOf price ⌝ }
+    {
+        if !Ladder::legal(price) {
+            return Position::Off;
+        }
+        let band = band_of(price);
+        Position::At(band.first + (price - band.from) / band.step)
+    }
+
+    // 0, the absent price, for a number that is no position.
+    pub fn price(position: u32) -> u32
+        ensures { λ r. ⌜ r ≡ priceAt position ⌝ }
+    {
+        if position < 1 {
+            return 0;
+        }
+        if Ladder::POSITIONS < position {
+            return 0;
+        }
+        if position <= 1300 {
+            return tabled(position);
+        }
+        40_000 + 200 * (position - 1300)
+    }
+}
+
+// The one function that reads the table: a call builds the whole array on its stack (docs/DECISIONS.md).
+fn tabled(position: u32) -> u32
+    requires { ⌜ (1 ≤ position) × (position ≤ 1300) ⌝ }
+    ensures { λ r. ⌜ r ≡ priceAt position ⌝ }
+{
+    PRICES[(position - 1) as usize]
+}
+
+fn band_of(price: u32) -> Band
+    ensures { λ r. ⌜ r ≡ bandOfPrice price ⌝ }
+{
+    if price < 200 {
+        return Band {
+            from: 1,
+            step: 1,
+            first: 1,
+        };
+    }
+    if price < 500 {
+        return Band {
+            from: 200,
+            step: 2,
+            first: 200,
+        };
+    }
+    if price < 1_000 {
+        return Band {
+            from: 500,
+            step: 5,
+            first: 350,
+        };
+    }
+    if price < 2_500 {
+        return Band {
+            from: 1_000,
+            step: 10,
+            first: 450,
+        };
+    }
+    if price < 10_000 {
+        return Band {
+            from: 2_500,
+            step: 25,
+            first: 600,
+        };
+    }
+    if price < 20_000 {
+        return Band {
+            from: 10_000,
+            step: 50,
+            first: 900,
+        };
+    }
+    if price < 40_000 {
+        return Band {
+            from: 20_000,
+            step: 100,
+            first: 1100,
+        };
+    }
+    Band {
+        from: 40_000,
+        step: 200,
+        first: 1300,
+    }
+}
