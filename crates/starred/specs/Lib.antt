@@ -1,1 +1,4 @@
+pub mod Bytes
+pub mod Run
 pub mod Cases
+pub mod Listing

@@ -1,0 +1,2 @@
+-- Laws of the definitions that other crates' proofs cite.
+pub mod Lists

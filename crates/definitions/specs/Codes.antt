@@ -1,0 +1,88 @@
+-- The codes and limits of paper 01, by name.
+use Prim.Native.Nat.{ℕ}
+
+-- "The lent state": session (0 closed, 1 pre-open, 2 open, 3 break, 4 pre-close)
+abbrev pub closed : ℕ
+closed = 0
+
+abbrev pub preOpen : ℕ
+preOpen = 1
+
+abbrev pub opened : ℕ
+opened = 2
+
+abbrev pub pause : ℕ
+pause = 3
+
+abbrev pub preClose : ℕ
+preClose = 4
+
+-- "Row": mark (0 free, 1 open, 2 cancelled)
+abbrev pub freeMark : ℕ
+freeMark = 0
+
+abbrev pub openMark : ℕ
+openMark = 1
+
+abbrev pub cancelledMark : ℕ
+cancelledMark = 2
+
+-- board (0 main, 1 foreign)
+abbrev pub mainBoard : ℕ
+mainBoard = 0
+
+abbrev pub foreignBoard : ℕ
+foreignBoard = 1
+
+-- side (0 buy, 1 sell)
+abbrev pub buy : ℕ
+buy = 0
+
+abbrev pub sell : ℕ
+sell = 1
+
+-- type (0 limit, 1 ATO, 2 ATC); "Type 3 is MP"
+abbrev pub limit : ℕ
+limit = 0
+
+abbrev pub ato : ℕ
+ato = 1
+
+abbrev pub atc : ℕ
+atc = 2
+
+abbrev pub mp : ℕ
+mp = 3
+
+-- "Channel: 0 front office, 1 online, 2 DMA"
+abbrev pub online : ℕ
+online = 1
+
+abbrev pub dma : ℕ
+dma = 2
+
+-- "clock (milliseconds since midnight, at most 86,399,999)"
+abbrev pub lastTime : ℕ
+lastTime = 86_399_999
+
+-- "cancelled at most 60,000 ms ago"
+abbrev pub remembered : ℕ
+remembered = 60_000
+
+-- "C customers (1 to 256) and S securities (1 to 1,024)"; "32 rows"
+abbrev pub mostCustomers : ℕ
+mostCustomers = 256
+
+abbrev pub mostSecurities : ℕ
+mostSecurities = 1_024
+
+abbrev pub deskRows : ℕ
+deskRows = 32
+
+-- "volume 1 to 20,000,000"
+abbrev pub mostVolume : ℕ
+mostVolume = 20_000_000
+
+-- "each stays at 4,294,967,295 once there"
+abbrev pub mostCounted : ℕ
+mostCounted = 4_294_967_295

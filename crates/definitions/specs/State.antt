@@ -1,0 +1,143 @@
+-- Paper 01, "The lent state": where the header, the security records and the desks stand in the words.
+use mathlib.Core.Bool.{Bool, _&&_}
+use mathlib.Core.List.{List, [], _∷_, _++_}
+use Prim.Native.Nat.{ℕ, zero, suc, _+_, _*_}
+use lib.Dec.{leb, eqb}
+use lib.ListN.{length, getD, take, drop, replicate}
+use Rattle.definitions.specs.declared.Header.{Header}
+use Rattle.definitions.specs.declared.Board.{Board}
+use Rattle.definitions.specs.declared.Security.{Security}
+use Rattle.definitions.specs.declared.Row.{Row}
+use Rattle.definitions.specs.declared.Desk.{Desk}
+use Rattle.definitions.specs.Codes.{mostCustomers, mostSecurities, lastTime, preClose, deskRows}
+use Rattle.definitions.specs.Lists.{part, put, repeat}
+
+abbrev pub headerSize : ℕ
+headerSize = 4
+
+abbrev pub securitySize : ℕ
+securitySize = 13
+
+abbrev pub rowSize : ℕ
+rowSize = 9
+
+abbrev pub deskSize : ℕ
+deskSize = 291
+
+-- "it has exactly 4 + 13×S + 291×C words"
+abbrev pub securityPlace : ℕ → ℕ
+securityPlace s = headerSize + securitySize * s
+
+abbrev pub deskPlace : ℕ → ℕ → ℕ
+deskPlace securities k = securityPlace securities + deskSize * k
+
+abbrev pub stateSize : ℕ → ℕ → ℕ
+stateSize customers securities = deskPlace securities customers
+
+-- "Header: C, S, clock, session"
+abbrev pub headerOf : List ℕ → Header
+headerOf w = record { customers = getD w 0 0; securities = getD w 1 0; clock = getD w 2 0; session = getD w 3 0 }
+
+abbrev pub clockPlace : ℕ
+clockPlace = 2
+
+abbrev pub sessionPlace : ℕ
+sessionPlace = 3
+
+-- "Security: lot, free flag, first-day flag, prior close, IPO price; then projected, last sale, best bid, best offer for the main board, and
+-- the same four for the foreign board"
+abbrev pub boardOf : List ℕ → ℕ → Board
+boardOf w at = record { projected = getD w at 0; «last_sale» = getD w (at + 1) 0; bid = getD w (at + 2) 0; offer = getD w (at + 3) 0 }
+
+abbrev pub boardWords : Board → List ℕ
+boardWords b = b .projected ∷ b .«last_sale» ∷ b .bid ∷ b .offer ∷ []
+
+unfoldable pub securityOf : List ℕ → Security
+securityOf w =
+    record {
+      lot = getD w 0 0;
+      free = getD w 1 0;
+      «first_day» = getD w 2 0;
+      «prior_close» = getD w 3 0;
+      ipo = getD w 4 0;
+      main = boardOf w 5;
+      foreign = boardOf w 9;
+    }
+
+unfoldable pub securityWords : Security → List ℕ
+securityWords s = s .lot ∷ s .free ∷ s .«first_day» ∷ s .«prior_close» ∷ s .ipo ∷ (boardWords (s .main) ++ boardWords (s .foreign))
+
+-- "Row: mark, order number, security, board, side, type, price, volume, cancel time"
+unfoldable pub rowOf : List ℕ → Row
+rowOf w =
+    record {
+      mark = getD w 0 0;
+      number = getD w 1 0;
+      security = getD w 2 0;
+      board = getD w 3 0;
+      side = getD w 4 0;
+      ordtype = getD w 5 0;
+      price = getD w 6 0;
+      volume = getD w 7 0;
+      «cancel_time» = getD w 8 0;
+    }
+
+unfoldable pub rowWords : Row → List ℕ
+rowWords r =
+    r .mark ∷ r .number ∷ r .security ∷ r .board ∷ r .side ∷ r .ordtype ∷ r .price ∷ r .volume ∷ r .«cancel_time» ∷ []
+
+unfoldable pub rowsOf : ℕ → List ℕ → List Row
+rowsOf zero w = []
+rowsOf (suc n) w = rowOf (take rowSize w) ∷ rowsOf n (drop rowSize w)
+
+unfoldable pub rowsWords : List Row → List ℕ
+rowsWords [] = []
+rowsWords (r ∷ rs) = rowWords r ++ rowsWords rs
+
+-- "Desk: the customer's three counters and 32 rows"; "Counters: accepted, warned, rejected"
+unfoldable pub deskOf : List ℕ → Desk
+deskOf w = record { accepted = getD w 0 0; warned = getD w 1 0; rejected = getD w 2 0; rows = rowsOf deskRows (drop 3 w) }
+
+unfoldable pub deskWords : Desk → List ℕ
+deskWords d = d .accepted ∷ d .warned ∷ d .rejected ∷ rowsWords (d .rows)
+
+-- the records of a state, taken out
+unfoldable pub securityAt : List ℕ → ℕ → Security
+securityAt w s = securityOf (part w (securityPlace s) securitySize)
+
+unfoldable pub deskAt : List ℕ → ℕ → Desk
+deskAt w k = deskOf (part w (deskPlace (headerOf w .securities) k) deskSize)
+
+-- and put back
+unfoldable pub putSecurity : List ℕ → ℕ → Security → List ℕ
+putSecurity w s x = put w (securityPlace s) (securityWords x)
+
+unfoldable pub putDesk : List ℕ → ℕ → Desk → List ℕ
+putDesk w k d = put w (deskPlace (headerOf w .securities) k) (deskWords d)
+
+-- "For C customers (1 to 256) and S securities (1 to 1,024)"
+abbrev pub sizesFit : ℕ → ℕ → Bool
+sizesFit customers securities =
+    leb 1 customers && leb customers mostCustomers && leb 1 securities && leb securities mostSecurities
+
+-- what condition 1 asks of the lent state: "C, S, word count, clock or session as above"
+unfoldable pub stateFits : List ℕ → Bool
+stateFits w =
+    sizesFit (headerOf w .customers) (headerOf w .securities)
+    && eqb (length w) (stateSize (headerOf w .customers) (headerOf w .securities))
+    && leb (headerOf w .clock) lastTime
+    && leb (headerOf w .session) preClose
+
+-- "A fresh state has its C and S, every lot 100 and zeros elsewhere."
+abbrev pub noPrices : Board
+noPrices = record { projected = 0; «last_sale» = 0; bid = 0; offer = 0 }
+
+abbrev pub freshSecurity : Security
+freshSecurity = record { lot = 100; free = 0; «first_day» = 0; «prior_close» = 0; ipo = 0; main = noPrices; foreign = noPrices }
+
+-- the market's words: header and security records
+unfoldable pub freshMarket : ℕ → ℕ → List ℕ
+freshMarket customers securities = customers ∷ securities ∷ 0 ∷ 0 ∷ repeat securities (securityWords freshSecurity)
+
+unfoldable pub fresh : ℕ → ℕ → List ℕ
+fresh customers securities = freshMarket customers securities ++ replicate (deskSize * customers) 0

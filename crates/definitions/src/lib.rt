@@ -1,0 +1,118 @@
+// The records, events and answers of paper 01, as the code has them. What they mean stands in specs/. No code.
+
+// Paper 01, "The lent state": the header.
+pub struct Header {
+    pub customers: u32,
+    pub securities: u32,
+    pub clock: u32,
+    pub session: u32,
+}
+
+// The four prices of a security on one board; 0 is absent.
+pub struct Board {
+    pub projected: u32,
+    pub last_sale: u32,
+    pub bid: u32,
+    pub offer: u32,
+}
+
+pub struct Security {
+    pub lot: u32,
+    pub free: u32,
+    pub first_day: u32,
+    pub prior_close: u32,
+    pub ipo: u32,
+    pub main: Board,
+    pub foreign: Board,
+}
+
+// `ordtype` is the paper's type of an order, by the word of FIX: `type` is a keyword.
+pub struct Row {
+    pub mark: u32,
+    pub number: u32,
+    pub security: u32,
+    pub board: u32,
+    pub side: u32,
+    pub ordtype: u32,
+    pub price: u32,
+    pub volume: u32,
+    pub cancel_time: u32,
+}
+
+pub struct Desk {
+    pub accepted: u32,
+    pub warned: u32,
+    pub rejected: u32,
+    pub rows: [Row; 32],
+}
+
+// Paper 01, "Events": a struct for each kind. An order, a cancel and a match report stand beside the number of their customer,
+// so that what decides about an order is not given that number.
+pub struct Setup {
+    pub security: u32,
+    pub lot: u32,
+    pub free: u32,
+    pub first_day: u32,
+    pub prior_close: u32,
+    pub ipo: u32,
+}
+
+pub struct Prices {
+    pub security: u32,
+    pub board: u32,
+    pub prices: Board,
+}
+
+pub struct Order {
+    pub number: u32,
+    pub security: u32,
+    pub board: u32,
+    pub side: u32,
+    pub ordtype: u32,
+    pub channel: u32,
+    pub price: u32,
+    pub volume: u32,
+}
+
+pub struct Cancel {
+    pub number: u32,
+}
+
+pub struct Match {
+    pub number: u32,
+    pub volume: u32,
+}
+
+pub enum Event {
+    Clock(u32),
+    Session(u32),
+    Setup(Setup),
+    Prices(Prices),
+    Order(u32, Order),
+    Cancel(u32, Cancel),
+    Match(u32, Match),
+}
+
+// What reading an event's bytes gives: the event, or the number of the refusal.
+pub enum Reading {
+    Whole(Event),
+    Refused(u32),
+}
+
+// Paper 01, "Verdicts": the letter of a reject is the rule that applies.
+pub enum Verdict {
+    RejectS,
+    RejectV,
+    RejectQ,
+    RejectW,
+    RejectP,
+    Warn30,
+    Warn10,
+    Accept,
+}
+
+pub enum Answer {
+    Ok,
+    Verdict(Verdict),
+    Refused(u32),
+}
