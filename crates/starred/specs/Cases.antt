@@ -1,36 +1,110 @@
 -- Paper 01, "Along each edge": the cases marked to be proved, as entries of one table, and one theorem over the whole.
-use mathlib.Core.List.{List, [], _∷_, map}
+use mathlib.Core.List.{List, [], _∷_, _++_, map}
 use mathlib.Core.Path.{_≡_, refl}
 use Prim.Native.Nat.{ℕ}
 use Rattle.ladder.specs.declared.Position.{Position}
 use Rattle.ladder.specs.declared.Position.the-variants.{At}
 use Rattle.ladder.specs.Ladder.{positionOf, legal, bandOfPrice, lastBand}
+use Rattle.definitions.specs.declared.Answer.the-variants as answer
+use Rattle.definitions.specs.declared.Answer.{Answer}
+use Rattle.definitions.specs.declared.Verdict.{Verdict}
+use Rattle.definitions.specs.declared.Verdict.the-variants.{RejectV, RejectQ, RejectW, RejectP, Warn30, Warn10, Accept}
+use Rattle.starred.specs.Bytes.{clock, session, setup, prices, order, cancel}
+use Rattle.starred.specs.Run.{answersOf, lastOf}
 
--- what a case asks
+-- what a case asks: the position of a price, or the answer to the last event of a history of one customer and one security
 pub data Question : Type 0 where
   position : ℕ → Question
+  lastAnswer : List (List ℕ) → Question
 
-pub data Answer : Type 0 where
-  position : Position → Answer
+pub data Found : Type 0 where
+  at : Position → Found
+  answered : Answer → Found
+
+abbrev pub find : Question → Found
+find (position p) = at (positionOf p)
+find (lastAnswer history) = answered (lastOf (answersOf 1 1 history) answer.Ok)
 
 pub record Case : Type 0 where
   pub asked : Question
-  pub right : Answer
+  pub right : Found
 
-abbrev pub answer : Question → Answer
-answer (Question.position p) = Answer.position (positionOf p)
+-- a price and its position
+abbrev pub stands : ℕ → ℕ → Case
+stands price k = record { asked = position price; right = at (At k) }
 
-abbrev pub case : Question → Answer → Case
-case q a = record { asked = q; right = a }
+-- a history and the verdict on the order at its end
+abbrev pub judged : List (List ℕ) → List ℕ → Verdict → Case
+judged before last v = record { asked = lastAnswer (before ++ (last ∷ [])); right = answered (answer.Verdict v) }
+
+-- limit orders of customer 0 in security 0 on the main board: by the front office, and online
+abbrev pub office : ℕ → ℕ → ℕ → List ℕ
+office number price volume = order 0 number 0 0 0 0 0 price volume
+
+abbrev pub onlineBuy : ℕ → ℕ → ℕ → List ℕ
+onlineBuy number price volume = order 0 number 0 0 0 0 1 price volume
+
+abbrev pub onlineSell : ℕ → ℕ → ℕ → List ℕ
+onlineSell number price volume = order 0 number 0 0 1 0 1 price volume
+
+-- a free security in session 1 with the projected price 10.00, and in session 2 with the last sale 10.00
+abbrev pub freeAuction : List (List ℕ)
+freeAuction = setup 0 100 1 0 0 0 ∷ session 1 ∷ prices 0 0 1000 0 0 0 ∷ []
+
+abbrev pub freeOpen : List (List ℕ)
+freeOpen = setup 0 100 1 0 0 0 ∷ session 2 ∷ prices 0 0 0 1000 0 0 ∷ []
+
+-- session 1 with the projected price 24.50
+abbrev pub auction : List (List ℕ)
+auction = session 1 ∷ prices 0 0 2450 0 0 0 ∷ []
+
+-- session 2, an own sell at 50.00
+abbrev pub ownSell : List (List ℕ)
+ownSell = session 2 ∷ onlineSell 1 5000 100 ∷ []
+
+-- session 2, a buy of some volume at 50.00, cancelled at once, then a later clock
+abbrev pub cancelledAgo : ℕ → ℕ → List (List ℕ)
+cancelledAgo volume ago = session 2 ∷ onlineBuy 1 5000 volume ∷ cancel 0 1 ∷ clock ago ∷ []
+
+abbrev pub openSession : List (List ℕ)
+openSession = session 2 ∷ []
 
 abbrev pub cases : List Case
 cases =
     -- "Positions: 1.99 is 199, 2.00 is 200, 400.00 is 1300."
-    case (Question.position 199) (Answer.position (At 199))
-    ∷ case (Question.position 200) (Answer.position (At 200))
-    ∷ case (Question.position 40_000) (Answer.position (At 1300))
+    stands 199 199
+    ∷ stands 200 200
+    ∷ stands 40_000 1300
+    -- "Q at 10.00: 15.00 passes, 15.10 not; 5.00 passes, 4.98 not."
+    ∷ judged freeAuction (office 1 1500 100) Accept
+    ∷ judged freeAuction (office 1 1510 100) RejectQ
+    ∷ judged freeAuction (office 1 500 100) Accept
+    ∷ judged freeAuction (office 1 498 100) RejectQ
+    -- "warn 30 at 10.00: 13.00 and 7.00 pass; 13.10 and 6.95 warn."
+    ∷ judged freeOpen (office 1 1300 100) Accept
+    ∷ judged freeOpen (office 1 700 100) Accept
+    ∷ judged freeOpen (office 1 1310 100) Warn30
+    ∷ judged freeOpen (office 1 695 100) Warn30
+    -- "warn 10 at 24.50: 26.25 and 23.50 pass; 26.50 and 23.40 warn."
+    ∷ judged auction (onlineBuy 1 2625 100) Accept
+    ∷ judged auction (onlineBuy 1 2350 100) Accept
+    ∷ judged auction (onlineBuy 1 2650 100) Warn10
+    ∷ judged auction (onlineBuy 1 2340 100) Warn10
+    -- "Own sell at 50.00: buy at 49.75 passes, at 50.00 W."
+    ∷ judged ownSell (onlineBuy 2 4975 100) Accept
+    ∷ judged ownSell (onlineBuy 2 5000 100) RejectW
+    -- "Cancelled 100,000 at 50.00: 60,000 again after 60,000 ms P; after 60,001 ms, or 59,900 shares, accept."
+    ∷ judged (cancelledAgo 100_000 60_000) (onlineBuy 2 5000 60_000) RejectP
+    ∷ judged (cancelledAgo 100_000 60_001) (onlineBuy 2 5000 60_000) Accept
+    ∷ judged (cancelledAgo 100_000 60_000) (onlineBuy 2 5000 59_900) Accept
+    -- "Cancelled 120,000: 60,000 gets P; cancelled 120,200: accept."
+    ∷ judged (cancelledAgo 120_000 0) (onlineBuy 2 5000 60_000) RejectP
+    ∷ judged (cancelledAgo 120_200 0) (onlineBuy 2 5000 60_000) Accept
+    -- "10,000,000 at 50.00 passes V; 10,000,100 not."
+    ∷ judged openSession (office 1 5000 10_000_000) Accept
+    ∷ judged openSession (office 1 5000 10_000_100) RejectV
     ∷ []
 
-pub all-right : map (λ (c : Case). answer (c .asked)) cases ≡ map (λ (c : Case). c .right) cases
-unfolding positionOf legal bandOfPrice lastBand
+pub all-right : map (λ (c : Case). find (c .asked)) cases ≡ map (λ (c : Case). c .right) cases
+unfolding positionOf legal bandOfPrice lastBand answersOf
 all-right = refl
