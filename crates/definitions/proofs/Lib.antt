@@ -1,5 +1,28 @@
--- Laws of the definitions that other crates' proofs cite.
+-- Demands.antt states the three demands as theorems: read it first. Cases.antt, Listing.antt and Corners.antt run the paper's cases on the definitions.
+
+-- laws of the definitions, which other crates' proofs cite too
 pub mod Lists
 pub mod Words
 pub mod Records
 pub mod State
+-- sound records stay sound
+pub mod Tests
+pub mod Rows
+pub mod SoundRow
+pub mod SoundDesk
+pub mod SoundSecurity
+-- a history keeps the state well formed, and the lone run follows it
+pub mod HeaderWords
+pub mod Session
+pub mod Passed
+pub mod WellFormed
+pub mod Fresh
+pub mod Isolation
+pub mod Histories
+pub mod Turned
+pub mod Demands
+-- the paper's cases
+pub mod Bytes
+pub mod Run
+pub mod Cases
+pub mod Listing

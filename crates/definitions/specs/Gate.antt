@@ -3,6 +3,7 @@ use mathlib.Core.Bool.{Bool, true, false, cond, _&&_, not}
 use mathlib.Core.List.{List, [], _∷_}
 use Prim.Native.Nat.{ℕ}
 use lib.Dec.{eqb}
+use lib.ListN.{length, getD}
 use Rattle.definitions.specs.declared.Board.{Board}
 use Rattle.definitions.specs.declared.Security.{Security}
 use Rattle.definitions.specs.declared.Setup.{Setup}
@@ -19,7 +20,7 @@ use Rattle.definitions.specs.Codes.{foreignBoard}
 use Rattle.definitions.specs.Lists.{allBelow, each, put}
 use Rattle.definitions.specs.State.{headerOf, securityAt, deskAt, putSecurity, putDesk, stateFits, sizesFit, stateSize, fresh, clockPlace, sessionPlace}
 use Rattle.definitions.specs.Sound.{soundSecurity, soundDesk}
-use Rattle.definitions.specs.Events.{readEvent, customerNamed, securityNamed}
+use Rattle.definitions.specs.Events.{lengthOf, eventOf, readEvent, customerNamed, securityNamed}
 use Rattle.definitions.specs.Desks.{swept, cancelled, matched, ordered}
 use Rattle.definitions.specs.Rules.{verdictOf}
 use Rattle.definitions.specs.Refusals.{View, names, codes, prices, earlier, numberTaken, noOpenRow, matchVolume, deskFull, firstMet}
@@ -157,10 +158,32 @@ stepReading w (reading.Whole e) = stepEvent w e
 unfoldable pub step : List ℕ → List ℕ → Outcome
 step w b = cond (stateFits w) (stepReading w (readEvent b)) (turned 1)
 
+-- the whole table, from top to bottom, "but an unknown kind is found before a wrong length"; conditions 4 to 12 speak of the event as the kind
+-- lays it out. That the gate answers with the first that is met is a theorem (proofs/Demands.antt).
+abbrev pub eventIn : List ℕ → Event
+eventIn b = eventOf (getD b 0 0) b
+
+unfoldable pub conditions : List ℕ → List ℕ → List (ℕ × Bool)
+conditions w b =
+    (1, not (stateFits w))
+    ∷ (2, eqb (length b) 0)
+    ∷ (3, eqb (lengthOf (getD b 0 0)) 0)
+    ∷ (2, not (eqb (length b) (lengthOf (getD b 0 0))))
+    ∷ (4, names (headerOf w) (eventIn b))
+    ∷ (5, codes (eventIn b))
+    ∷ (6, prices (eventIn b))
+    ∷ (7, earlier (headerOf w) (eventIn b))
+    ∷ (8, unsound w (eventIn b))
+    ∷ (9, numberTaken (viewOf w (eventIn b)) (eventIn b))
+    ∷ (10, noOpenRow (viewOf w (eventIn b)) (eventIn b))
+    ∷ (11, matchVolume (viewOf w (eventIn b)) (eventIn b))
+    ∷ (12, deskFull (viewOf w (eventIn b)) (eventIn b))
+    ∷ []
+
 -- making a fresh state in lent words: "C, S, word count .. not as above (also on making a fresh state)"
 unfoldable pub made : List ℕ → ℕ → ℕ → Outcome
 made w customers securities =
-    cond (sizesFit customers securities && eqb (lib.ListN.length w) (stateSize customers securities)) (done answer.Ok (fresh customers securities)) (turned 1)
+    cond (sizesFit customers securities && eqb (length w) (stateSize customers securities)) (done answer.Ok (fresh customers securities)) (turned 1)
 
 -- "A history is a list of events from a fresh state .. one call an event, and meets the words that the last call left"
 abbrev pub stepWords : List ℕ → List ℕ → List ℕ

@@ -2,11 +2,11 @@
 use mathlib.Core.List.{List, [], _∷_}
 use mathlib.Core.Path.{_≡_, refl}
 use Prim.Native.Nat.{ℕ}
 use Rattle.definitions.specs.declared.Answer.{Answer}
 use Rattle.definitions.specs.declared.Answer.the-variants as answer
 use Rattle.definitions.specs.declared.Verdict.the-variants as verdict
-use Rattle.starred.specs.Bytes.{session, prices, order, cancel}
-use Rattle.starred.specs.Run.{answersOf}
+use Rattle.definitions.proofs.Bytes.{session, prices, order, cancel}
+use Rattle.definitions.proofs.Run.{answersOf}
 
 -- "session 2; security 0 main with last 50.00, bid 49.75, offer 50.25, no projected; customer 0 online, limit 50.00, 100 shares: buy no. 1,
 -- sell no. 2; cancel 1 twice"

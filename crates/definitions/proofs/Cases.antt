@@ -5,12 +5,12 @@ use Prim.Native.Nat.{ℕ}
 use Rattle.ladder.specs.declared.Position.{Position}
 use Rattle.ladder.specs.declared.Position.the-variants.{At}
 use Rattle.ladder.specs.Ladder.{positionOf, legal, bandOfPrice, lastBand}
 use Rattle.definitions.specs.declared.Answer.the-variants as answer
 use Rattle.definitions.specs.declared.Answer.{Answer}
 use Rattle.definitions.specs.declared.Verdict.{Verdict}
 use Rattle.definitions.specs.declared.Verdict.the-variants.{RejectV, RejectQ, RejectW, RejectP, Warn30, Warn10, Accept}
-use Rattle.starred.specs.Bytes.{clock, session, setup, prices, order, cancel}
-use Rattle.starred.specs.Run.{answersOf, lastOf}
+use Rattle.definitions.proofs.Bytes.{clock, session, setup, prices, order, cancel}
+use Rattle.definitions.proofs.Run.{answersOf, lastOf}
 
 -- what a case asks: the position of a price, or the answer to the last event of a history of one customer and one security
 pub data Question : Type 0 where

@@ -1,0 +1,100 @@
+-- The three demands of paper 00 as theorems over the definitions of paper 01. Read this file first: each theorem stands under the sentence that it
+-- proves, and each definition that it names is in crates/definitions/specs. That the code does what `step` says is the contract of `gate::handle`.
+-- Assumes nothing.
+use mathlib.Core.Bool.{true}
+use mathlib.Core.List.{List}
+use mathlib.Core.Path.{_≡_, refl, ap, sym, _∙_}
+use Prim.Native.Nat.{ℕ, _<_}
+use lib.Dec.{lit<}
+use Rattle.definitions.specs.declared.Order.{Order}
+use Rattle.definitions.specs.declared.Event.the-variants as event
+use Rattle.definitions.specs.declared.Reading.the-variants as reading
+use Rattle.definitions.specs.declared.Answer.{Answer}
+use Rattle.definitions.specs.declared.Answer.the-variants as answer
+use Rattle.definitions.specs.Lists.{keep}
+use Rattle.definitions.specs.State.{headerOf, sizesFit, fresh, securityAt, deskAt, deskWords, stateFits}
+use Rattle.definitions.specs.Events.{readEvent}
+use Rattle.definitions.specs.Rules.{verdictOf}
+use Rattle.definitions.specs.Desks.{ordered}
+use Rattle.definitions.specs.Refusals.{firstMet}
+use Rattle.definitions.specs.Gate.{conditions, stepAnswer, stepWords, wordsAfter, answersTo, allSound}
+use Rattle.definitions.specs.Lone.{Lone, loneFresh, loneAfter, loneAnswers, concerns, marketWords, customerWords}
+use Rattle.definitions.proofs.State as state
+use Rattle.definitions.proofs.WellFormed.{Good, fits, all-sound}
+use Rattle.definitions.proofs.Fresh.{fresh-good, fresh-market, fresh-desk}
+use Rattle.definitions.proofs.Turned as turned
+use Rattle.definitions.proofs.Turned.{FoundFirst}
+use Rattle.definitions.proofs.Isolation.{loneOf}
+use Rattle.definitions.proofs.Histories.{good-after, same-answers, same-after}
+
+-- DEMAND 1, of the definitions. (That nothing steps outside what was lent, wraps, loses bits or fails to end is proved of the code, function by function.)
+
+-- "no refused event changes a single lent word"
+pub refused-unchanged : (w b : List ℕ) (n : ℕ) → stepAnswer w b ≡ answer.Refused n → stepWords w b ≡ w
+refused-unchanged w b n e = turned.refused w b n e .words
+
+-- "no refusal comes except under the condition document 01 sets for its number": the condition with that number is met, and none above it in the table
+pub refused-by-condition : (w b : List ℕ) (n : ℕ) → stepAnswer w b ≡ answer.Refused n → FoundFirst n (conditions w b)
+refused-by-condition w b n e =
+    let t = turned.refused w b n e in
+    turned.found-first n (conditions w b) (t .first) (t .some)
+
+-- "and an event that meets such a condition gets the number found first"
+pub condition-refuses : (w b : List ℕ) (n : ℕ) → firstMet (conditions w b) ≡ n → (n ≡ 0 → ⊥) → stepAnswer w b ≡ answer.Refused n
+condition-refuses = turned.refuses
+
+-- DEMAND 2, of the definitions: "From a fresh state, the verdict of every order not refused is the one that the exchange's 2011 screening standard, as
+-- condensed in document 01, gives for the events so far .. Rows and counters follow the same definition."
+module _ (customers securities : ℕ) (fit : sizesFit customers securities ≡ true) where
+  -- after every history the state is well formed: sizes, clock and session fit and every record is sound
+  pub well-formed : (history : List (List ℕ)) → Good customers securities (wordsAfter (fresh customers securities) history)
+  well-formed history = good-after (fresh customers securities) (fresh-good customers securities fit) history
+
+  -- so that conditions 1 and 8 never arise in a history
+  pub state-fits : (history : List (List ℕ)) → stateFits (wordsAfter (fresh customers securities) history) ≡ true
+  state-fits history = fits (wordsAfter (fresh customers securities) history) (well-formed history)
+
+  pub records-sound : (history : List (List ℕ)) → allSound (wordsAfter (fresh customers securities) history) ≡ true
+  records-sound history = all-sound (wordsAfter (fresh customers securities) history) (well-formed history)
+
+  -- DEMAND 3: for every history and every customer k, "these answers, rows, counters and words are exactly those of the lone run in document 01, which is
+  -- fed these events and nothing of the others"
+  pub record Isolated (k : ℕ) (history : List (List ℕ)) : Type 0 where
+    pub answers : answersTo (concerns customers k) (fresh customers securities) history ≡ loneAnswers (loneFresh customers securities) (keep (concerns customers k) history)
+    pub market : marketWords (wordsAfter (fresh customers securities) history) ≡ loneAfter (loneFresh customers securities) (keep (concerns customers k) history) .market
+    pub desk : customerWords (wordsAfter (fresh customers securities) history) k ≡ deskWords (loneAfter (loneFresh customers securities) (keep (concerns customers k) history) .desk)
+
+  fresh-lone : (k : ℕ) → k < customers → loneOf (fresh customers securities) k ≡ loneFresh customers securities
+  fresh-lone k below i = record { market = fresh-market customers securities i; desk = fresh-desk customers securities k below i }
+
+  pub isolated : (k : ℕ) → k < customers → (history : List (List ℕ)) → Isolated k history
+  isolated k below history =
+      let w = fresh customers securities in
+      let good = fresh-good customers securities fit in
+      let start = ap (λ (l : Lone). loneAfter l (keep (concerns customers k) history)) (fresh-lone k below) in
+      let after = sym (same-after k below w good history) ∙ start in
+      record {
+        answers =
+            sym (same-answers k below w good history) ∙ ap (λ (l : Lone). loneAnswers l (keep (concerns customers k) history)) (fresh-lone k below);
+        market = ap (λ (l : Lone). l .market) after;
+        desk = state.customer-words (wordsAfter w history) (well-formed history .sized) k below ∙ ap (λ (l : Lone). deskWords (l .desk)) after;
+      }
+
+  -- "Any two histories from fresh states of one size that hold the same market events and the same events of one customer, in the same order among
+  -- themselves, are alike in the answers to these events and, after the whole list, in that customer's rows and counters and in the market's words,
+  -- however the other customers' events, and those that belong to nobody, are changed, added, dropped or moved"
+  pub record Alike (k : ℕ) (one other : List (List ℕ)) : Type 0 where
+    pub answers : answersTo (concerns customers k) (fresh customers securities) one ≡ answersTo (concerns customers k) (fresh customers securities) other
+    pub market : marketWords (wordsAfter (fresh customers securities) one) ≡ marketWords (wordsAfter (fresh customers securities) other)
+    pub desk : customerWords (wordsAfter (fresh customers securities) one) k ≡ customerWords (wordsAfter (fresh customers securities) other) k
+
+  pub alike : (k : ℕ) → k < customers → (one other : List (List ℕ)) → keep (concerns customers k) one ≡ keep (concerns customers k) other → Alike k one other
+  alike k below one other same =
+      let a = isolated k below one in
+      let b = isolated k below other in
+      let lone = loneFresh customers securities in
+      record {
+        answers = a .answers ∙ ap (loneAnswers lone) same ∙ sym (b .answers);
+        market = a .market ∙ ap (λ (bs : List (List ℕ)). loneAfter lone bs .market) same ∙ sym (b .market);
+        desk = a .desk ∙ ap (λ (bs : List (List ℕ)). deskWords (loneAfter lone bs .desk)) same ∙ sym (b .desk);
+      }

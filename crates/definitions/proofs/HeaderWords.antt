@@ -1,0 +1,61 @@
+-- The clock and the session, set in the header: nothing else of a state changes.
+-- Assumes nothing.
+use mathlib.Core.List.{List, [], _∷_}
+use mathlib.Core.Path.{_≡_, refl, ap, sym, _∙_}
+use Prim.Native.Nat.{ℕ, _+_, _≤_, _<_}
+use native.Mathlib.Omega.{arith}
+use lib.ListN.{length, getD}
+use Rattle.definitions.specs.declared.Header.{Header}
+use Rattle.definitions.specs.Lists.{part, put}
+use Rattle.definitions.specs.State.{headerOf, clockPlace, sessionPlace, securityPlace, deskPlace, securityOf, deskOf, securityAt, deskAt}
+use Rattle.definitions.specs.Lone.{marketWords}
+use Rattle.definitions.specs.Gate.{afterClock}
+use Rattle.definitions.proofs.Words as words
+use Rattle.definitions.proofs.State.{Sized}
+
+abbrev pub withClock : ℕ → Header → Header
+withClock t h = record { customers = h .customers; securities = h .securities; clock = t; session = h .session }
+
+abbrev pub withSession : ℕ → Header → Header
+withSession s h = record { customers = h .customers; securities = h .securities; clock = h .clock; session = s }
+
+pub header-clock : (t : ℕ) (w : List ℕ) → 4 ≤ length w → headerOf (put w clockPlace (t ∷ [])) ≡ withClock t (headerOf w)
+unfolding put
+header-clock t [] h = absurd (omega arith)
+header-clock t (a ∷ []) h = absurd (omega arith)
+header-clock t (a ∷ b ∷ []) h = absurd (omega arith)
+header-clock t (a ∷ b ∷ c ∷ []) h = absurd (omega arith)
+header-clock t (a ∷ b ∷ c ∷ d ∷ w) h = refl
+
+pub header-session : (s : ℕ) (w : List ℕ) → 4 ≤ length w → headerOf (put w sessionPlace (s ∷ [])) ≡ withSession s (headerOf w)
+unfolding put
+header-session s [] h = absurd (omega arith)
+header-session s (a ∷ []) h = absurd (omega arith)
+header-session s (a ∷ b ∷ []) h = absurd (omega arith)
+header-session s (a ∷ b ∷ c ∷ []) h = absurd (omega arith)
+header-session s (a ∷ b ∷ c ∷ d ∷ w) h = refl
+
+-- a word of the header after the count of securities
+module _ {customers securities : ℕ} (w : List ℕ) (sized : Sized customers securities w) (place : ℕ) (after : 2 ≤ place) (within : place < 4) (x : ℕ) where
+  fits : place + length (x ∷ []) ≤ length w
+  fits = omega (arith, sized .long)
+
+  counted : headerOf (put w place (x ∷ [])) .securities ≡ headerOf w .securities
+  counted = words.getD-put-before w place (x ∷ []) fits 1 (omega arith)
+
+  pub sized-put : Sized customers securities (put w place (x ∷ []))
+  sized-put = record { long = words.length-put w place (x ∷ []) fits ∙ sized .long; counted = counted ∙ sized .counted }
+
+  pub security-put : (s : ℕ) → securityAt (put w place (x ∷ [])) s ≡ securityAt w s
+  unfolding securityAt
+  security-put s = ap securityOf (words.part-put-after w place (x ∷ []) fits (securityPlace s) 13 (omega arith))
+
+  pub desk-put : (k : ℕ) → deskAt (put w place (x ∷ [])) k ≡ deskAt w k
+  unfolding deskAt
+  desk-put k =
+      rw counted (ap deskOf (words.part-put-after w place (x ∷ []) fits (deskPlace (headerOf w .securities) k) 291 (omega arith)))
+
+  pub market-put : marketWords (put w place (x ∷ [])) ≡ put (marketWords w) place (x ∷ [])
+  unfolding marketWords
+  market-put =
+      rw counted (words.take-put w place (x ∷ []) fits (securityPlace (headerOf w .securities)) (omega arith) (omega (arith, sized .long, sized .counted)))

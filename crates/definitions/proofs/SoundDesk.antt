@@ -1,0 +1,290 @@
+-- A sound desk stays sound: as the clock goes on, and after a session change, a cancel, a match report and an order.
+-- Assumes nothing.
+use mathlib.Core.Bool.{Bool, true, false, cond, _&&_, _||_, not, true≢false}
+use mathlib.Core.List.{List, [], _∷_, _++_, map}
+use mathlib.Core.Path.{_≡_, refl, sym, subst, _∙_}
+use Prim.Native.Nat.{ℕ, zero, suc, _-_, _%_, _≤_, _<_}
+use native.Mathlib.Omega.{arith}
+use lib.Dec.{leb, ltb, eqb}
+use lib.ListN.{length, replicate, length-set, length-map}
+use borrow.Author.Tests.{ltb-false, leb-false, eqb-false, not-true, not-false, lt-ltb, le-leb}
+use Rattle.definitions.specs.declared.Header.{Header}
+use Rattle.definitions.specs.declared.Security.{Security}
+use Rattle.definitions.specs.declared.Row.{Row}
+use Rattle.definitions.specs.declared.Desk.{Desk}
+use Rattle.definitions.specs.declared.Order.{Order}
+use Rattle.definitions.specs.declared.Verdict.{Verdict}
+use Rattle.definitions.specs.declared.Verdict.the-variants as verdict
+use Rattle.definitions.specs.declared.Event.the-variants as event
+use Rattle.definitions.specs.Codes.{foreignBoard, sell, atc, mp, dma, deskRows, mostVolume}
+use Rattle.definitions.specs.Lists.{any, all, count, keep}
+use Rattle.definitions.specs.Sound.{marked, numbered, pricedAs, soundRow, markedFirst, numbersDiffer, soundDesk}
+use Rattle.definitions.specs.Desks.{freeRow, freshDesk, live, closeUp, edited, expiredRow, sweptRow, cancelledRow, matchedRow, swept, cancelled, matched, rowOfOrder, addedLast, added, rejects, counted, takesRow, ordered}
+use Rattle.definitions.specs.Rules.{isLimit, valueOf, ruleS, ruleV, verdictOf}
+use Rattle.definitions.specs.Refusals.{names, codes, prices, liveWith, numberTaken, deskFull}
+use Rattle.definitions.proofs.Tests.{and-parts, and-whole, and-second, or-parts, joined-parts, joined-whole}
+use Rattle.definitions.proofs.Rows.{KeepsNumbers, all-append, all-replicate, all-kept, all-keep, all-weaken, all-map, any-keep, any-map-same, count-map-same, count-le, length-edited, first-closed, differ-closed, differ-keep, differ-map, differ-last, added-closed}
+use Rattle.definitions.proofs.SoundRow.{true-marked, free-row, later-row, swept-sound, swept-kept, expired-sound, expired-kept, expired-live, expired-numbered, cancelled-sound, cancelled-kept, matched-sound, matched-kept}
+
+pub length-swept : (d : Desk) → length (swept d .rows) ≡ length (d .rows)
+unfolding swept
+length-swept d = length-edited sweptRow (d .rows)
+
+pub length-cancelled : (number clock : ℕ) (d : Desk) → length (cancelled number clock d .rows) ≡ length (d .rows)
+unfolding cancelled
+length-cancelled number clock d = length-edited (cancelledRow number clock) (d .rows)
+
+pub length-matched : (number volume : ℕ) (d : Desk) → length (matched number volume d .rows) ≡ length (d .rows)
+unfolding matched
+length-matched number volume d = length-edited (matchedRow number volume) (d .rows)
+
+length-added : (clock : ℕ) (o : Order) (d : Desk) → length (added clock o d .rows) ≡ length (d .rows)
+unfolding added
+length-added clock o d =
+    let rows = edited (expiredRow clock) (d .rows) in
+    length-set rows (count marked rows) (rowOfOrder o) ∙ length-edited (expiredRow clock) (d .rows)
+
+pub length-ordered : (v : Verdict) (clock : ℕ) (o : Order) (d : Desk) → length (ordered v clock o d .rows) ≡ length (d .rows)
+unfolding ordered counted
+length-ordered v clock o d = go (takesRow v o)
+  where
+    go : (t : Bool) → length (cond t (added clock o d) d .rows) ≡ length (d .rows)
+    go true = length-added clock o d
+    go false = refl
+
+-- sound rows, with a name for each part of the test
+pub record SoundRows (securities clock : ℕ) (rows : List Row) : Type 0 where
+  pub each : all (soundRow securities clock) rows ≡ true
+  pub first : markedFirst rows ≡ true
+  pub differ : numbersDiffer rows ≡ true
+
+pub desk-true : (S clock : ℕ) (d : Desk) → soundDesk S clock d ≡ true → SoundRows S clock (d .rows)
+unfolding soundDesk
+desk-true S clock d e =
+    let p = joined-parts (all (soundRow S clock) (d .rows)) (markedFirst (d .rows) ∷ numbersDiffer (d .rows) ∷ []) e in
+    record { each = p .0; first = p .1 .0; differ = p .1 .1 .0 }
+
+pub true-desk : (S clock : ℕ) (d : Desk) → SoundRows S clock (d .rows) → soundDesk S clock d ≡ true
+unfolding soundDesk
+true-desk S clock d h =
+    joined-whole (all (soundRow S clock) (d .rows)) (markedFirst (d .rows) ∷ numbersDiffer (d .rows) ∷ []) (h .each, (h .first, (h .differ, tt)))
+
+module _ (S clock : ℕ) where
+  -- sound marked rows whose numbers differ, and then free rows
+  sound-closed : (front : List Row) (n : ℕ) → all (soundRow S clock) front ≡ true → all marked front ≡ true → numbersDiffer front ≡ true
+      → SoundRows S clock (front ++ replicate n freeRow)
+  sound-closed front n sound mark differ =
+      record {
+        each = all-append (soundRow S clock) front (replicate n freeRow) sound (all-replicate (soundRow S clock) n freeRow (free-row S clock));
+        first = first-closed front n mark;
+        differ = differ-closed front n ∙ differ;
+      }
+
+  -- a change of rows that leaves a row sound, marks none anew and keeps the number of a row that stays
+  module _ (f : Row → Row) (keeps-sound : (r : Row) → soundRow S clock r ≡ true → soundRow S clock (f r) ≡ true) (keeps-numbers : KeepsNumbers f)
+      (rows : List Row) (h : SoundRows S clock rows) where
+    left-sound : all (soundRow S clock) (keep marked (map f rows)) ≡ true
+    left-sound =
+        all-keep (soundRow S clock) marked (map f rows) (all-map (soundRow S clock) (soundRow S clock) f keeps-sound rows (h .each))
+
+    left-differ : numbersDiffer (keep marked (map f rows)) ≡ true
+    left-differ = differ-keep (map f rows) ∙ differ-map f keeps-numbers rows (h .differ)
+
+    sound-edited : SoundRows S clock (edited f rows)
+    unfolding edited closeUp
+    sound-edited =
+        sound-closed (keep marked (map f rows)) (length (map f rows) - count marked (map f rows)) left-sound (all-kept marked (map f rows)) left-differ
+
+pub sound-later : (S clock later : ℕ) (d : Desk) → clock ≤ later → soundDesk S clock d ≡ true → soundDesk S later d ≡ true
+sound-later S clock later d h e =
+    let p = desk-true S clock d e in
+    true-desk S later d
+    (record {
+      each = all-weaken (soundRow S clock) (soundRow S later) (later-row S clock later h) (d .rows) (p .each);
+      first = p .first;
+      differ = p .differ;
+    })
+
+pub sound-swept : (S clock : ℕ) (d : Desk) → soundDesk S clock d ≡ true → soundDesk S clock (swept d) ≡ true
+unfolding swept
+sound-swept S clock d e =
+    true-desk S clock (swept d) (sound-edited S clock sweptRow (swept-sound S clock) swept-kept (d .rows) (desk-true S clock d e))
+
+pub sound-cancelled : (S clock number : ℕ) (d : Desk) → soundDesk S clock d ≡ true → soundDesk S clock (cancelled number clock d) ≡ true
+unfolding cancelled
+sound-cancelled S clock number d e =
+    true-desk S clock
+    (cancelled number clock d)
+    (sound-edited S clock (cancelledRow number clock) (cancelled-sound S clock number) (cancelled-kept number clock) (d .rows) (desk-true S clock d e))
+
+-- a row whose volume is at most the match's goes, so what is left is at least 1 at any volume: the premise on it is not needed
+pub sound-matched : (S clock number volume : ℕ) (d : Desk) → soundDesk S clock d ≡ true → eqb volume 0 ≡ false
+    → soundDesk S clock (matched number volume d) ≡ true
+unfolding matched
+sound-matched S clock number volume d e _ =
+    true-desk S clock
+    (matched number volume d)
+    (sound-edited S clock (matchedRow number volume) (matched-sound S clock number volume) (matched-kept number volume) (d .rows) (desk-true S clock d e))
+
+pub sound-fresh-desk : (S clock : ℕ) → soundDesk S clock freshDesk ≡ true
+unfolding all numbersDiffer
+sound-fresh-desk S clock = true-desk S clock freshDesk (sound-closed S clock [] deskRows refl refl refl)
+
+above-zero : (n : ℕ) → eqb n 0 ≡ false → 0 < n
+above-zero n e =
+    let differs : ¬ (n ≡ 0) = eqb-false n 0 e in
+    omega arith
+
+below-mp : (n : ℕ) → ltb mp n ≡ false → eqb n mp ≡ false → n ≤ atc
+below-mp n most other =
+    let differs : ¬ (n ≡ mp) = eqb-false n mp other in
+    omega (arith, ltb-false mp n most)
+
+-- a verdict that is no reject says that rule V does not apply
+no-rule-v : (session clock : ℕ) (s : Security) (d : Desk) (o : Order) → rejects (verdictOf session clock s d o) ≡ false → ruleV s o ≡ false
+unfolding verdictOf
+no-rule-v session clock s d o e = go (ruleS session s o) (ruleV s o) _ e
+  where
+    go : (a b : Bool) (rest : Verdict) → rejects (cond a verdict.RejectS (cond b verdict.RejectV rest)) ≡ false → b ≡ false
+    go true b rest k = absurd (true≢false k)
+    go false true rest k = absurd (true≢false k)
+    go false false rest k = refl
+
+-- what the conditions 4 to 6 and rule V leave of an order, with a name for each part
+record Fits (securities : ℕ) (o : Order) : Type 0 where
+  number : eqb (o .number) 0 ≡ false
+  security : leb securities (o .security) ≡ false
+  board : ltb foreignBoard (o .board) ≡ false
+  side : ltb sell (o .side) ≡ false
+  most-type : ltb mp (o .ordtype) ≡ false
+  price : not (pricedAs (o .ordtype) (o .price)) ≡ false
+  volume : eqb (o .volume) 0 ≡ false
+  most-volume : ltb mostVolume (o .volume) ≡ false
+
+order-fits : (h : Header) (s : Security) (k : ℕ) (o : Order) → names h (event.Order k o) ≡ false → codes (event.Order k o) ≡ false
+    → prices (event.Order k o) ≡ false → ruleV s o ≡ false → Fits (h .securities) o
+unfolding names codes prices ruleV
+order-fits h s k o n c p v =
+    let board = ltb foreignBoard (o .board) in
+    let side = ltb sell (o .side) in
+    let ordtype = ltb mp (o .ordtype) in
+    let channel = ltb dma (o .channel) in
+    let c₃ = or-parts (board || side || ordtype || channel) (eqb (o .number) 0) c in
+    let c₂ = or-parts (board || side || ordtype) channel (c₃ .0) in
+    let c₁ = or-parts (board || side) ordtype (c₂ .0) in
+    let c₀ = or-parts board side (c₁ .0) in
+    let none = eqb (o .volume) 0 in
+    let many = ltb mostVolume (o .volume) in
+    let broken = not (eqb (o .volume % s .lot) 0) in
+    let v₂ = or-parts (none || many || broken) (isLimit (o .ordtype) && ltb 50_000_000_000 (valueOf o)) v in
+    let v₁ = or-parts (none || many) broken (v₂ .0) in
+    let v₀ = or-parts none many (v₁ .0) in
+    record {
+      number = c₃ .1;
+      security = or-parts (leb (h .customers) k) (leb (h .securities) (o .security)) n .1;
+      board = c₀ .0;
+      side = c₀ .1;
+      most-type = c₁ .1;
+      price = p;
+      volume = v₀ .0;
+      most-volume = v₀ .1;
+    }
+
+-- such an order, not MP, makes a sound row
+order-row : (S clock : ℕ) (o : Order) → Fits S o → eqb (o .ordtype) mp ≡ false → soundRow S clock (rowOfOrder o) ≡ true
+order-row S clock o f other =
+    true-marked S clock
+    (rowOfOrder o)
+    (record {
+      state = refl;
+      number = lt-ltb 0 (o .number) (above-zero (o .number) (f .number));
+      security = lt-ltb (o .security) S (leb-false S (o .security) (f .security));
+      board = le-leb (o .board) foreignBoard (ltb-false foreignBoard (o .board) (f .board));
+      side = le-leb (o .side) sell (ltb-false sell (o .side) (f .side));
+      ordtype = le-leb (o .ordtype) atc (below-mp (o .ordtype) (f .most-type) other);
+      price = not-false (pricedAs (o .ordtype) (o .price)) (f .price);
+      least = le-leb 1 (o .volume) (above-zero (o .volume) (f .volume));
+      most = le-leb (o .volume) mostVolume (ltb-false mostVolume (o .volume) (f .most-volume));
+    })
+
+-- sound marked rows whose numbers differ, a sound marked row with a new number behind them, and then free rows
+module _ (S clock : ℕ) (front : List Row) (r : Row) where
+  sound-behind : (n : ℕ) → 0 < n → all (soundRow S clock) front ≡ true → all marked front ≡ true → numbersDiffer front ≡ true
+      → soundRow S clock r ≡ true → marked r ≡ true → any (numbered (r .number)) front ≡ false
+      → SoundRows S clock (addedLast r (front ++ replicate n freeRow))
+  unfolding all
+  sound-behind zero left sound mark differ e m new = absurd (omega arith)
+  sound-behind (suc n) left sound mark differ e m new =
+      subst
+      (SoundRows S clock)
+      (sym (added-closed front n r mark))
+      (sound-closed S clock
+      (front ++ (r ∷ []))
+      n
+      (all-append (soundRow S clock) front (r ∷ []) sound (and-whole e refl))
+      (all-append marked front (r ∷ []) mark (and-whole m refl))
+      (differ-last front r differ new))
+
+-- the rows of a sound desk as an order meets them: those cancelled longer ago are free
+module _ (S clock : ℕ) (rows : List Row) (h : SoundRows S clock rows) where
+  -- a number that no live row has is no marked row's
+  number-new : (number : ℕ) → any (liveWith clock number) rows ≡ false → any (numbered number) (keep marked (map (expiredRow clock) rows)) ≡ false
+  number-new number free =
+      any-keep (numbered number) marked (λ x e. rw e) (map (expiredRow clock) rows)
+      ∙ any-map-same (numbered number) (liveWith clock number) (expiredRow clock) (soundRow S clock) (expired-numbered S clock number) rows (h .each)
+      ∙ free
+
+  -- where the live rows are not all, a free row is left
+  place-left : length rows ≡ deskRows → eqb (count (live clock) rows) deskRows ≡ false
+      → 0 < length (map (expiredRow clock) rows) - count marked (map (expiredRow clock) rows)
+  place-left size full =
+      let same = count-map-same marked (live clock) (expiredRow clock) (soundRow S clock) (expired-live S clock) rows (h .each) in
+      let less : ¬ (count (live clock) rows ≡ deskRows) = eqb-false (count (live clock) rows) deskRows full in
+      omega (arith, count-le (live clock) rows, length-map rows (expiredRow clock))
+
+  sound-added : (o : Order) → length rows ≡ deskRows → soundRow S clock (rowOfOrder o) ≡ true → any (liveWith clock (o .number)) rows ≡ false
+      → eqb (count (live clock) rows) deskRows ≡ false → SoundRows S clock (addedLast (rowOfOrder o) (edited (expiredRow clock) rows))
+  unfolding edited closeUp
+  sound-added o size e free full =
+      let expired = map (expiredRow clock) rows in
+      sound-behind S clock
+      (keep marked expired)
+      (rowOfOrder o)
+      (length expired - count marked expired)
+      (place-left size full)
+      (left-sound S clock (expiredRow clock) (expired-sound S clock) (expired-kept clock) rows h)
+      (all-kept marked expired)
+      (left-differ S clock (expiredRow clock) (expired-sound S clock) (expired-kept clock) rows h)
+      e
+      refl
+      (number-new (o .number) free)
+
+pub sound-ordered : (h : Header) (s : Security) (d : Desk) (k : ℕ) (o : Order) → length (d .rows) ≡ 32
+    → soundDesk (h .securities) (h .clock) d ≡ true
+    → names h (event.Order k o) ≡ false
+    → codes (event.Order k o) ≡ false
+    → prices (event.Order k o) ≡ false
+    → numberTaken (record { header = h; security = s; desk = d }) (event.Order k o) ≡ false
+    → deskFull (record { header = h; security = s; desk = d }) (event.Order k o) ≡ false
+    → soundDesk (h .securities) (h .clock) (ordered (verdictOf (h .session) (h .clock) s d o) (h .clock) o d) ≡ true
+unfolding ordered counted added numberTaken deskFull
+sound-ordered h s d k o size e n c p free full =
+    true-desk (h .securities) (h .clock) (ordered v (h .clock) o d) (go (takesRow v o) refl)
+  where
+    v : Verdict
+    v = verdictOf (h .session) (h .clock) s d o
+
+    sound : SoundRows (h .securities) (h .clock) (d .rows)
+    sound = desk-true (h .securities) (h .clock) d e
+
+    row : takesRow v o ≡ true → soundRow (h .securities) (h .clock) (rowOfOrder o) ≡ true
+    row takes =
+        let taken = and-parts (not (rejects v)) (not (eqb (o .ordtype) mp)) takes in
+        let rule = no-rule-v (h .session) (h .clock) s d o (not-true (rejects v) (taken .0)) in
+        order-row (h .securities) (h .clock) o (order-fits h s k o n c p rule) (not-true (eqb (o .ordtype) mp) (taken .1))
+
+    go : (t : Bool) → takesRow v o ≡ t → SoundRows (h .securities) (h .clock) (cond t (added (h .clock) o d) d .rows)
+    go true takes =
+        sound-added (h .securities) (h .clock) (d .rows) sound o size (row takes) free
+        (and-second (takesRow v o) (eqb (count (live (h .clock)) (d .rows)) deskRows) full takes)
+    go false takes = sound

@@ -1,0 +1,294 @@
+-- One row of a sound desk: each change of a row leaves it sound, marks no free row and keeps the number of a row that stays.
+-- Assumes nothing.
+use mathlib.Core.Bool.{Bool, true, false, cond, _&&_, not, false≢true}
+use mathlib.Core.List.{List, [], _∷_}
+use mathlib.Core.Logic.{_⊎_, inl, inr, ⊎-elim}
+use mathlib.Core.Path.{_≡_, refl, ap}
+use Prim.Native.Nat.{ℕ, _+_, _-_, _≤_}
+use native.Mathlib.Omega.{arith}
+use lib.Dec.{leb, ltb, eqb}
+use borrow.Author.Tests.{leb-true, leb-false, eqb-true, not-true, le-leb}
+use Rattle.definitions.specs.declared.Row.{Row}
+use Rattle.definitions.specs.Codes.{freeMark, openMark, cancelledMark, foreignBoard, sell, limit, atc, remembered, mostVolume}
+use Rattle.definitions.specs.Sound.{marked, allZero, pricedAs, openOrCancelled, soundMarked, soundRow, numbered}
+use Rattle.definitions.specs.Desks.{freeRow, recent, isOpen, live, openWith, expiredRow, sweptRow, markedCancelled, cancelledRow, withVolume, matchedRow}
+use Rattle.definitions.specs.Refusals.{liveWith}
+use Rattle.definitions.proofs.Tests.{never, and-parts, and-whole, and-same, or-first, or-second, or-cases, joined-parts, joined-whole}
+use Rattle.definitions.proofs.Rows.{KeepsNumbers}
+
+-- a sound marked row, with a name for each part of the test
+pub record SoundMarked (securities clock : ℕ) (r : Row) : Type 0 where
+  pub state : openOrCancelled clock r ≡ true
+  pub number : ltb 0 (r .number) ≡ true
+  pub security : ltb (r .security) securities ≡ true
+  pub board : leb (r .board) foreignBoard ≡ true
+  pub side : leb (r .side) sell ≡ true
+  pub ordtype : leb (r .ordtype) atc ≡ true
+  pub price : pricedAs (r .ordtype) (r .price) ≡ true
+  pub least : leb 1 (r .volume) ≡ true
+  pub most : leb (r .volume) mostVolume ≡ true
+
+-- the tests of a marked row behind the first
+abbrev laterTests : ℕ → Row → List Bool
+laterTests securities r =
+    ltb 0 (r .number)
+    ∷ ltb (r .security) securities
+    ∷ leb (r .board) foreignBoard
+    ∷ leb (r .side) sell
+    ∷ leb (r .ordtype) atc
+    ∷ pricedAs (r .ordtype) (r .price)
+    ∷ leb 1 (r .volume)
+    ∷ leb (r .volume) mostVolume
+    ∷ []
+
+-- and of a free row
+abbrev otherZeros : Row → List Bool
+otherZeros r =
+    eqb (r .number) 0
+    ∷ eqb (r .security) 0
+    ∷ eqb (r .board) 0
+    ∷ eqb (r .side) 0
+    ∷ eqb (r .ordtype) 0
+    ∷ eqb (r .price) 0
+    ∷ eqb (r .volume) 0
+    ∷ eqb (r .«cancel_time») 0
+    ∷ []
+
+zero-mark : (r : Row) → allZero r ≡ true → eqb (r .mark) freeMark ≡ true
+zero-mark r e = joined-parts (eqb (r .mark) freeMark) (otherZeros r) e .0
+
+module _ (S clock : ℕ) where
+  marked-true : (r : Row) → soundMarked S clock r ≡ true → SoundMarked S clock r
+  marked-true r e =
+      let p = joined-parts (openOrCancelled clock r) (laterTests S r) e in
+      record {
+        state = p .0;
+        number = p .1 .0;
+        security = p .1 .1 .0;
+        board = p .1 .1 .1 .0;
+        side = p .1 .1 .1 .1 .0;
+        ordtype = p .1 .1 .1 .1 .1 .0;
+        price = p .1 .1 .1 .1 .1 .1 .0;
+        least = p .1 .1 .1 .1 .1 .1 .1 .0;
+        most = p .1 .1 .1 .1 .1 .1 .1 .1 .0;
+      }
+
+  pub true-marked : (r : Row) → SoundMarked S clock r → soundRow S clock r ≡ true
+  unfolding soundRow
+  true-marked r h =
+      or-second (allZero r)
+      (joined-whole (openOrCancelled clock r) (laterTests S r)
+      (h .state, (h .number, (h .security, (h .board, (h .side, (h .ordtype, (h .price, (h .least, (h .most, tt))))))))))
+
+  pub row-cases : (r : Row) → soundRow S clock r ≡ true → (allZero r ≡ true) ⊎ SoundMarked S clock r
+  unfolding soundRow
+  row-cases r e = ⊎-elim (λ z. inl z) (λ m. inr (marked-true r m)) (or-cases (allZero r) (soundMarked S clock r) e)
+
+  row-marked : (r : Row) → soundRow S clock r ≡ true → marked r ≡ true → SoundMarked S clock r
+  row-marked r e m = ⊎-elim (λ z. never (zero-mark r z) (not-true (eqb (r .mark) freeMark) m)) (λ h. h) (row-cases r e)
+
+  pub free-row : soundRow S clock freeRow ≡ true
+  unfolding soundRow
+  free-row = refl
+
+-- the two states of a marked row
+record Open (r : Row) : Type 0 where
+  mark : eqb (r .mark) openMark ≡ true
+  time : eqb (r .«cancel_time») 0 ≡ true
+
+record Cancelled (clock : ℕ) (r : Row) : Type 0 where
+  mark : eqb (r .mark) cancelledMark ≡ true
+  time : leb (r .«cancel_time») clock ≡ true
+  ordtype : eqb (r .ordtype) limit ≡ true
+
+module _ (clock : ℕ) (r : Row) where
+  abbrev whenOpen : Bool
+  whenOpen = eqb (r .mark) openMark && eqb (r .«cancel_time») 0
+
+  abbrev whenCancelled : Bool
+  whenCancelled = eqb (r .mark) cancelledMark && leb (r .«cancel_time») clock && eqb (r .ordtype) limit
+
+  state-cases : openOrCancelled clock r ≡ true → Open r ⊎ Cancelled clock r
+  state-cases e = ⊎-elim (λ o. inl (opened o)) (λ c. inr (cancelled c)) (or-cases whenOpen whenCancelled e)
+    where
+      opened : whenOpen ≡ true → Open r
+      opened o =
+          let p = and-parts (eqb (r .mark) openMark) (eqb (r .«cancel_time») 0) o in
+          record { mark = p .0; time = p .1 }
+
+      cancelled : whenCancelled ≡ true → Cancelled clock r
+      cancelled c =
+          let p = joined-parts (eqb (r .mark) cancelledMark) (leb (r .«cancel_time») clock ∷ eqb (r .ordtype) limit ∷ []) c in
+          record { mark = p .0; time = p .1 .0; ordtype = p .1 .1 .0 }
+
+  open-state : Open r → openOrCancelled clock r ≡ true
+  open-state o = or-first whenCancelled (and-whole (o .mark) (o .time))
+
+  cancelled-state : Cancelled clock r → openOrCancelled clock r ≡ true
+  cancelled-state c = or-second whenOpen (and-whole (and-whole (c .mark) (c .time)) (c .ordtype))
+
+-- a cancel time that is at most the clock is at most a later clock
+later-state : (clock later : ℕ) (r : Row) → clock ≤ later → openOrCancelled clock r ≡ true → openOrCancelled later r ≡ true
+later-state clock later r h e =
+    ⊎-elim (open-state later r)
+    (λ c.
+    let time = le-leb (r .«cancel_time») later (omega (arith, leb-true (r .«cancel_time») clock (c .time))) in
+    cancelled-state later r (record { mark = c .mark; time = time; ordtype = c .ordtype }))
+    (state-cases clock r e)
+
+pub later-row : (S clock later : ℕ) → clock ≤ later → (r : Row) → soundRow S clock r ≡ true → soundRow S later r ≡ true
+unfolding soundRow
+later-row S clock later h r e =
+    ⊎-elim (λ z. or-first (soundMarked S later r) z)
+    (λ m.
+    true-marked S later r
+    (record {
+      state = later-state clock later r h (m .state);
+      number = m .number;
+      security = m .security;
+      board = m .board;
+      side = m .side;
+      ordtype = m .ordtype;
+      price = m .price;
+      least = m .least;
+      most = m .most;
+    }))
+    (row-cases S clock r e)
+
+-- what holds of both rows that a test chooses from, each under its outcome
+either : (P : Row → Type 0) (t : Bool) (a b : Row) → (t ≡ true → P a) → (t ≡ false → P b) → P (cond t a b)
+either P true a b p q = p refl
+either P false a b p q = q refl
+
+open-marked : (number : ℕ) (r : Row) → openWith number r ≡ true → marked r ≡ true
+open-marked number r e = rw (eqb-true (r .mark) openMark (and-parts (isOpen r) (eqb (r .number) number) e .0))
+
+-- the changes leave a row sound
+module _ (S clock : ℕ) where
+  abbrev Sound : Row → Type 0
+  Sound x = soundRow S clock x ≡ true
+
+  pub swept-sound : (r : Row) → soundRow S clock r ≡ true → soundRow S clock (sweptRow r) ≡ true
+  swept-sound r e = either Sound (eqb (r .ordtype) limit) r freeRow (λ _. e) (λ _. free-row S clock)
+
+  pub expired-sound : (r : Row) → soundRow S clock r ≡ true → soundRow S clock (expiredRow clock r) ≡ true
+  expired-sound r e =
+      either Sound (eqb (r .mark) cancelledMark && not (recent clock r)) freeRow r (λ _. free-row S clock) (λ _. e)
+
+  markedCancelled-sound : (r : Row) → SoundMarked S clock r → eqb (r .ordtype) limit ≡ true → soundRow S clock (markedCancelled clock r) ≡ true
+  markedCancelled-sound r h l =
+      true-marked S clock
+      (markedCancelled clock r)
+      (record {
+        state = and-whole (le-leb clock clock (omega arith)) l;
+        number = h .number;
+        security = h .security;
+        board = h .board;
+        side = h .side;
+        ordtype = h .ordtype;
+        price = h .price;
+        least = h .least;
+        most = h .most;
+      })
+
+  pub cancelled-sound : (number : ℕ) (r : Row) → soundRow S clock r ≡ true → soundRow S clock (cancelledRow number clock r) ≡ true
+  cancelled-sound number r e =
+      either Sound (openWith number r) (cond (eqb (r .ordtype) limit) (markedCancelled clock r) freeRow) r
+      (λ opened.
+      either Sound (eqb (r .ordtype) limit) (markedCancelled clock r) freeRow
+      (markedCancelled-sound r (row-marked S clock r e (open-marked number r opened)))
+      (λ _. free-row S clock))
+      (λ _. e)
+
+  withVolume-sound : (volume : ℕ) (r : Row) → SoundMarked S clock r → leb (r .volume) volume ≡ false
+      → soundRow S clock (withVolume (r .volume - volume) r) ≡ true
+  withVolume-sound volume r h more =
+      true-marked S clock
+      (withVolume (r .volume - volume) r)
+      (record {
+        state = h .state;
+        number = h .number;
+        security = h .security;
+        board = h .board;
+        side = h .side;
+        ordtype = h .ordtype;
+        price = h .price;
+        least = le-leb 1 (r .volume - volume) (omega (arith, leb-false (r .volume) volume more));
+        most = le-leb (r .volume - volume) mostVolume (omega (arith, leb-true (r .volume) mostVolume (h .most)));
+      })
+
+  pub matched-sound : (number volume : ℕ) (r : Row) → soundRow S clock r ≡ true → soundRow S clock (matchedRow number volume r) ≡ true
+  matched-sound number volume r e =
+      either Sound (openWith number r) (cond (leb (r .volume) volume) freeRow (withVolume (r .volume - volume) r)) r
+      (λ opened.
+      either Sound (leb (r .volume) volume) freeRow (withVolume (r .volume - volume) r)
+      (λ _. free-row S clock)
+      (withVolume-sound volume r (row-marked S clock r e (open-marked number r opened))))
+      (λ _. e)
+
+-- they mark none anew, and a row that stays keeps its number
+abbrev Kept : Row → Row → Type 0
+Kept r x = marked x ≡ true → (marked r ≡ true) × (x .number ≡ r .number)
+
+gone : (r : Row) → Kept r freeRow
+gone r e = absurd (false≢true e)
+
+stays : (r : Row) → Kept r r
+stays r e = (e, refl)
+
+pub swept-kept : KeepsNumbers sweptRow
+swept-kept r = either (Kept r) (eqb (r .ordtype) limit) r freeRow (λ _. stays r) (λ _. gone r)
+
+pub expired-kept : (clock : ℕ) → KeepsNumbers (expiredRow clock)
+expired-kept clock r = either (Kept r) (eqb (r .mark) cancelledMark && not (recent clock r)) freeRow r (λ _. gone r) (λ _. stays r)
+
+pub cancelled-kept : (number clock : ℕ) → KeepsNumbers (cancelledRow number clock)
+cancelled-kept number clock r =
+    either (Kept r) (openWith number r) (cond (eqb (r .ordtype) limit) (markedCancelled clock r) freeRow) r
+    (λ opened.
+    either (Kept r) (eqb (r .ordtype) limit) (markedCancelled clock r) freeRow
+    (λ _ _. (open-marked number r opened, refl))
+    (λ _. gone r))
+    (λ _. stays r)
+
+pub matched-kept : (number volume : ℕ) → KeepsNumbers (matchedRow number volume)
+matched-kept number volume r =
+    either (Kept r) (openWith number r) (cond (leb (r .volume) volume) freeRow (withVolume (r .volume - volume) r)) r
+    (λ _. either (Kept r) (leb (r .volume) volume) freeRow (withVolume (r .volume - volume) r) (λ _. gone r) (λ _ m. (m, refl)))
+    (λ _. stays r)
+
+-- the three marks that a sound row may have
+mark-cases : (S clock : ℕ) (r : Row) → soundRow S clock r ≡ true
+    → (r .mark ≡ freeMark) ⊎ ((r .mark ≡ openMark) ⊎ (r .mark ≡ cancelledMark))
+mark-cases S clock r e =
+    ⊎-elim
+    (λ z. inl (eqb-true (r .mark) freeMark (zero-mark r z)))
+    (λ m.
+    inr
+    (⊎-elim (λ o. inl (eqb-true (r .mark) openMark (o .mark))) (λ c. inr (eqb-true (r .mark) cancelledMark (c .mark)))
+    (state-cases clock r (m .state))))
+    (row-cases S clock r e)
+
+-- the live rows are those that are marked when the rows cancelled longer ago are gone
+pub expired-live : (S clock : ℕ) (r : Row) → soundRow S clock r ≡ true → marked (expiredRow clock r) ≡ live clock r
+expired-live S clock r e = ⊎-elim at-free (⊎-elim at-open at-cancelled) (mark-cases S clock r e)
+  where
+    at-free : r .mark ≡ freeMark → marked (expiredRow clock r) ≡ live clock r
+    at-free m = rw m
+
+    at-open : r .mark ≡ openMark → marked (expiredRow clock r) ≡ live clock r
+    at-open m = rw m
+
+    at-cancelled : r .mark ≡ cancelledMark → marked (expiredRow clock r) ≡ live clock r
+    at-cancelled m =
+        rw (ap (λ (n : ℕ). eqb n cancelledMark) m, ap (λ (n : ℕ). eqb n openMark) m) (go (leb clock (r .«cancel_time» + remembered)))
+      where
+        go : (t : Bool) → marked (cond (not t) freeRow r) ≡ t
+        go true = rw m
+        go false = refl
+
+pub expired-numbered : (S clock number : ℕ) (r : Row) → soundRow S clock r ≡ true → numbered number (expiredRow clock r) ≡ liveWith clock number r
+expired-numbered S clock number r e =
+    and-same (marked (expiredRow clock r)) (eqb (expiredRow clock r .number) number) (live clock r) (eqb (r .number) number)
+    (expired-live S clock r e)
+    (λ m. ap (λ (n : ℕ). eqb n number) (expired-kept clock r m .1))

@@ -1,0 +1,87 @@
+-- Refusals: which condition is met, that it is the first, and that the words stay equal.
+-- Assumes nothing.
+use mathlib.Core.Bool.{Bool, true, false, cond, not}
+use mathlib.Core.List.{List, [], _∷_, _++_}
+use mathlib.Core.Path.{_≡_, refl, ap, sym, subst, _∙_}
+use Prim.Native.Nat.{ℕ, _<_}
+use native.Mathlib.Omega.{arith}
+use lib.Dec.{eqb}
+use lib.ListN.{length, getD}
+use borrow.Author.Tests.{eqb-false, ne-eqb}
+use Rattle.definitions.specs.declared.Event.{Event}
+use Rattle.definitions.specs.declared.Event.the-variants as event
+use Rattle.definitions.specs.declared.Reading.{Reading}
+use Rattle.definitions.specs.declared.Reading.the-variants as reading
+use Rattle.definitions.specs.declared.Answer.{Answer}
+use Rattle.definitions.specs.declared.Answer.the-variants as answer
+use Rattle.definitions.specs.State.{stateFits}
+use Rattle.definitions.specs.Events.{lengthOf, eventOf, readEvent}
+use Rattle.definitions.specs.Refusals.{firstMet}
+use Rattle.definitions.specs.Gate.{Outcome, turned, done, answerOf, wordsOf, eventIn, conditions, refusal, perform, turnedOr, stepEvent, stepReading, step, stepAnswer, stepWords}
+
+-- the step is: turned back by the first condition of the whole table that is met, and done if none is
+pub step-by-table : (w b : List ℕ) → step w b ≡ turnedOr (firstMet (conditions w b)) (perform w (eventIn b))
+unfolding step readEvent stepEvent refusal conditions firstMet
+step-by-table w b = go (stateFits w) (eqb (length b) 0) (eqb (lengthOf (getD b 0 0)) 0) (eqb (length b) (lengthOf (getD b 0 0)))
+  where
+    go : (fits empty unknown whole : Bool)
+        → cond fits (stepReading w (cond empty (reading.Refused 2) (cond unknown (reading.Refused 3) (cond whole (reading.Whole (eventIn b)) (reading.Refused 2))))) (turned 1)
+        ≡ turnedOr (cond (not fits) 1 (cond empty 2 (cond unknown 3 (cond (not whole) 2 (refusal w (eventIn b)))))) (perform w (eventIn b))
+    go false empty unknown whole = refl
+    go true true unknown whole = refl
+    go true false true whole = refl
+    go true false false false = refl
+    go true false false true = refl
+
+-- what an event does is never answered with a refusal
+never-refused : (w : List ℕ) (e : Event) (n : ℕ) → answerOf (perform w e) ≡ answer.Refused n → ⊥
+unfolding perform
+never-refused w (event.Clock t) n e = let no : _≡_ {A = ℕ} 0 1 = cc in omega arith
+never-refused w (event.Session s) n e = let no : _≡_ {A = ℕ} 0 1 = cc in omega arith
+never-refused w (event.Setup x) n e = let no : _≡_ {A = ℕ} 0 1 = cc in omega arith
+never-refused w (event.Prices x) n e = let no : _≡_ {A = ℕ} 0 1 = cc in omega arith
+never-refused w (event.Order k x) n e = let no : _≡_ {A = ℕ} 0 1 = cc in omega arith
+never-refused w (event.Cancel k x) n e = let no : _≡_ {A = ℕ} 0 1 = cc in omega arith
+never-refused w (event.Match k x) n e = let no : _≡_ {A = ℕ} 0 1 = cc in omega arith
+
+pub record Turned (w b : List ℕ) (n : ℕ) : Type 0 where
+  pub first : firstMet (conditions w b) ≡ n
+  pub some : n ≡ 0 → ⊥
+  pub words : stepWords w b ≡ w
+
+same-number : (m n : ℕ) → _≡_ {A = Answer} (answer.Refused m) (answer.Refused n) → m ≡ n
+same-number m n e = cc
+
+pub refused : (w b : List ℕ) (n : ℕ) → stepAnswer w b ≡ answer.Refused n → Turned w b n
+refused w b n e = go (eqb first 0) refl (ap answerOf (sym (step-by-table w b)) ∙ e) (ap (wordsOf w) (step-by-table w b))
+  where
+    first : ℕ
+    first = firstMet (conditions w b)
+
+    go : (t : Bool) → eqb first 0 ≡ t → answerOf (cond t (perform w (eventIn b)) (turned first)) ≡ answer.Refused n
+        → stepWords w b ≡ wordsOf w (cond t (perform w (eventIn b)) (turned first)) → Turned w b n
+    go true none a kept = absurd (never-refused w (eventIn b) n a)
+    go false some a kept =
+        let number = same-number first n a in
+        record { first = number; some = λ zero. eqb-false first 0 some (number ∙ zero); words = kept }
+
+-- and the other way round: an event that meets a condition is refused with the first
+pub refuses : (w b : List ℕ) (n : ℕ) → firstMet (conditions w b) ≡ n → (n ≡ 0 → ⊥) → stepAnswer w b ≡ answer.Refused n
+refuses w b n first some =
+    ap answerOf (step-by-table w b)
+    ∙ ap (λ (m : ℕ). answerOf (turnedOr m (perform w (eventIn b)))) first
+    ∙ ap (λ (t : Bool). answerOf (cond t (perform w (eventIn b)) (turned n))) (ne-eqb n 0 some)
+
+-- a condition of the table is met, and none above it
+pub data FoundFirst (n : ℕ) : List (ℕ × Bool) → Type 0 where
+  here : (cs : List (ℕ × Bool)) → FoundFirst n ((n, true) ∷ cs)
+  below : (m : ℕ) (cs : List (ℕ × Bool)) → FoundFirst n cs → FoundFirst n ((m, false) ∷ cs)
+
+pub found-first : (n : ℕ) (cs : List (ℕ × Bool)) → firstMet cs ≡ n → (n ≡ 0 → ⊥) → FoundFirst n cs
+unfolding firstMet
+found-first n [] e some = absurd (some (sym e))
+found-first n (c ∷ cs) e some = go (c .0) (c .1) e (λ f. found-first n cs f some)
+  where
+    go : (m : ℕ) (t : Bool) → cond t m (firstMet cs) ≡ n → (firstMet cs ≡ n → FoundFirst n cs) → FoundFirst n ((m, t) ∷ cs)
+    go m true f rest = subst (λ (i : ℕ). FoundFirst n ((i, true) ∷ cs)) (sym f) (here cs)
+    go m false f rest = below m cs (rest f)

@@ -1,4 +1,0 @@
-pub mod Bytes
-pub mod Run
-pub mod Cases
-pub mod Listing
