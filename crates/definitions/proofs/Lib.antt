@@ -26,3 +26,4 @@ pub mod Bytes
 pub mod Run
 pub mod Cases
 pub mod Listing
+pub mod Corners

@@ -17,6 +17,16 @@ unfoldable pub answersOf : ℕ → ℕ → List (List ℕ) → List Answer
 unfolding legal bandOfPrice lastBand positionOf lists.any lists.all lists.count lists.keep lists.allBelow lists.each lists.part lists.put lists.repeat state.securityOf state.securityWords state.rowOf state.rowWords state.rowsOf state.rowsWords state.deskOf state.deskWords state.securityAt state.deskAt state.putSecurity state.putDesk state.stateFits state.freshMarket state.fresh sound.soundSecurity sound.soundRow sound.markedFirst sound.numbersDiffer sound.soundDesk events.lengthOf events.eventOf events.readEvent desks.closeUp desks.edited desks.swept desks.cancelled desks.matched desks.added desks.counted desks.ordered rules.ruleS rules.ruleV rules.ruleQ rules.ownMatch rules.ruleW rules.recalled rules.ruleP rules.warn30 rules.warn10 rules.verdictOf refusals.names refusals.codes refusals.prices refusals.earlier refusals.numberTaken refusals.noOpenRow refusals.matchVolume refusals.deskFull refusals.firstMet gate.viewOf gate.allSound gate.unsound gate.refusal gate.afterSetup gate.afterPrices gate.withoutProjected gate.sessionMarket gate.afterSession gate.afterClock gate.perform gate.stepEvent gate.step gate.answersTo
 answersOf customers securities history = gate.answersTo (λ _. true) (state.fresh customers securities) history
 
+-- one event handed to the gate over any words
+unfoldable pub answerOn : List ℕ → List ℕ → Answer
+unfolding answersOf
+answerOn w b = gate.stepAnswer w b
+
+-- the words after a history
+unfoldable pub wordsOf : ℕ → ℕ → List (List ℕ) → List ℕ
+unfolding answersOf gate.wordsAfter
+wordsOf customers securities history = gate.wordsAfter (state.fresh customers securities) history
+
 -- the answer to the last event of a history
 abbrev pub lastOf : List Answer → Answer → Answer
 lastOf [] a = a

@@ -1,0 +1,130 @@
+-- Paper 01, "Where an event is turned back": the corners of the table, run on the definitions, and one theorem over the whole. The state has one customer
+-- and one security: the header at 0, the security at 4, the desk's counters at 17 and its rows, nine words each, from 20 on.
+use mathlib.Core.List.{List, [], _∷_, _++_, map}
+use mathlib.Core.Path.{_≡_, refl}
+use Prim.Native.Nat.{ℕ, zero, suc}
+use lib.ListN.{set}
+use Rattle.definitions.specs.declared.Answer.{Answer}
+use Rattle.definitions.specs.declared.Answer.the-variants as answer
+use Rattle.definitions.specs.declared.Verdict.the-variants.{Accept, RejectS, RejectV}
+use Rattle.definitions.proofs.Bytes.{clock, session, setup, prices, order, cancel, match}
+use Rattle.definitions.proofs.Run.{answersOf, answerOn, wordsOf}
+
+-- a history, a damage of the words after it, and the event that meets them
+pub record Corner : Type 0 where
+  pub before : List (List ℕ)
+  pub damage : List ℕ → List ℕ
+  pub last : List ℕ
+  pub right : Answer
+
+abbrev pub met : List (List ℕ) → List ℕ → Answer → Corner
+met before last right = record { before = before; damage = λ w. w; last = last; right = right }
+
+-- one word set to another value
+abbrev pub damaged : List (List ℕ) → ℕ → ℕ → List ℕ → Answer → Corner
+damaged before place value last right = record { before = before; damage = λ w. set w place value; last = last; right = right }
+
+-- limit buys of 100 shares at 50.00, online, and other types without a price
+abbrev pub buy : ℕ → List ℕ
+buy number = order 0 number 0 0 0 0 1 5000 100
+
+abbrev pub typed : ℕ → ℕ → List ℕ
+typed number type = order 0 number 0 0 0 type 1 0 100
+
+abbrev pub buys : ℕ → List (List ℕ)
+buys zero = []
+buys (suc n) = buys n ++ (buy (suc n) ∷ [])
+
+abbrev pub opened : List (List ℕ)
+opened = session 2 ∷ []
+
+-- session 2 with a best offer, and desks of one and of 32 open rows
+abbrev pub offered : List (List ℕ)
+offered = session 2 ∷ prices 0 0 0 0 0 5025 ∷ []
+
+abbrev pub held : List (List ℕ)
+held = session 2 ∷ buy 1 ∷ []
+
+abbrev pub full : List (List ℕ)
+full = offered ++ buys 32
+
+abbrev pub refused : ℕ → Answer
+refused n = answer.Refused n
+
+abbrev pub corners : List Corner
+corners =
+    -- 1: sizes, clock and session; before the bytes are looked at
+    damaged [] 0 0 (session 1) (refused 1)
+    ∷ damaged [] 0 2 (session 1) (refused 1)
+    ∷ damaged [] 1 1_025 (session 1) (refused 1)
+    ∷ damaged [] 2 86_400_000 (session 1) (refused 1)
+    ∷ damaged [] 3 5 [] (refused 1)
+    ∷ damaged [] 3 4 (session 4) answer.Ok
+    -- 2 and 3: an unknown kind before a wrong length, nothing at all is 2
+    ∷ met [] [] (refused 2)
+    ∷ met [] (1 ∷ []) (refused 2)
+    ∷ met [] (2 ∷ 1 ∷ 0 ∷ []) (refused 2)
+    ∷ met [] (0 ∷ []) (refused 3)
+    ∷ met [] (8 ∷ 1 ∷ []) (refused 3)
+    -- 4, and before 5
+    ∷ met [] (order 1 1 0 0 0 0 1 5000 100) (refused 4)
+    ∷ met [] (order 0 1 1 0 0 0 1 5000 100) (refused 4)
+    ∷ met [] (cancel 1 0) (refused 4)
+    ∷ met [] (setup 1 10 0 0 0 0) (refused 4)
+    -- 5, and before 6
+    ∷ met [] (clock 86_400_000) (refused 5)
+    ∷ met [] (session 5) (refused 5)
+    ∷ met [] (setup 0 10 0 0 0 0) (refused 5)
+    ∷ met [] (setup 0 50 2 0 3 0) (refused 5)
+    ∷ met [] (prices 0 2 0 0 0 0) (refused 5)
+    ∷ met [] (order 0 0 0 0 0 0 1 5001 100) (refused 5)
+    ∷ met [] (order 0 1 0 0 0 4 1 0 100) (refused 5)
+    ∷ met [] (order 0 1 0 0 0 0 3 5000 100) (refused 5)
+    ∷ met [] (cancel 0 0) (refused 5)
+    ∷ met [] (match 0 0 0) (refused 5)
+    -- 6
+    ∷ met [] (setup 0 100 0 0 6560 0) (refused 6)
+    ∷ met [] (setup 0 100 0 0 0 10_000_001) (refused 6)
+    ∷ met [] (setup 0 100 0 0 6575 10_000_000) answer.Ok
+    ∷ met [] (prices 0 0 0 0 0 201) (refused 6)
+    ∷ met [] (order 0 1 0 0 0 0 1 0 100) (refused 6)
+    ∷ met [] (order 0 1 0 0 0 1 1 5000 100) (refused 6)
+    -- 7
+    ∷ met (clock 5 ∷ []) (clock 4) (refused 7)
+    ∷ met (clock 5 ∷ []) (clock 5) answer.Ok
+    -- 8: a session event reads all records, also where the session stays; a clock event reads none
+    ∷ damaged opened 4 10 (session 2) (refused 8)
+    ∷ damaged opened 4 10 (prices 0 0 0 0 0 0) (refused 8)
+    ∷ damaged opened 4 10 (buy 1) (refused 8)
+    ∷ damaged opened 4 10 (cancel 0 1) (refused 10)
+    ∷ damaged opened 4 10 (clock 1) answer.Ok
+    ∷ damaged held 20 3 (cancel 0 1) (refused 8)
+    ∷ damaged held 29 1 (session 2) (refused 8)
+    -- 9: for MP too; a cancel is remembered for 60,000 ms
+    ∷ met held (buy 1) (refused 9)
+    ∷ met held (typed 1 3) (refused 9)
+    ∷ met (held ++ (cancel 0 1 ∷ clock 60_000 ∷ [])) (buy 1) (refused 9)
+    ∷ met (held ++ (cancel 0 1 ∷ clock 60_001 ∷ [])) (buy 1) (answer.Verdict Accept)
+    -- 10, and before 11
+    ∷ met held (cancel 0 2) (refused 10)
+    ∷ met (held ++ (cancel 0 1 ∷ [])) (cancel 0 1) (refused 10)
+    ∷ met held (match 0 2 0) (refused 10)
+    -- 11
+    ∷ met held (match 0 1 0) (refused 11)
+    ∷ met held (match 0 1 101) (refused 11)
+    ∷ met held (match 0 1 100) answer.Ok
+    -- 12: not for MP, nor for an order that is rejected
+    ∷ met full (buy 33) (refused 12)
+    ∷ met full (typed 33 3) (answer.Verdict Accept)
+    ∷ met full (typed 33 1) (answer.Verdict RejectS)
+    ∷ met full (order 0 33 0 0 0 0 1 5000 150) (answer.Verdict RejectV)
+    ∷ met (full ++ (cancel 0 1 ∷ clock 60_000 ∷ [])) (buy 33) (refused 12)
+    ∷ met (full ++ (cancel 0 1 ∷ clock 60_001 ∷ [])) (buy 33) (answer.Verdict Accept)
+    ∷ []
+
+abbrev pub answered : Corner → Answer
+answered c = answerOn (c .damage (wordsOf 1 1 (c .before))) (c .last)
+
+pub all-right : map answered corners ≡ map (λ (c : Corner). c .right) corners
+unfolding answersOf answerOn wordsOf
+all-right = refl

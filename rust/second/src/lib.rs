@@ -1,0 +1,15 @@
+//! The order gate a second time, written from the scope paper (01) alone, so
+//! that its answers and words can be compared with the first implementation's.
+
+#![forbid(unsafe_code)]
+
+pub mod answer;
+pub mod codes;
+pub mod day;
+pub mod encode;
+pub mod event;
+pub mod gate;
+pub mod ladder;
+pub mod lone;
+pub mod rules;
+pub mod state;

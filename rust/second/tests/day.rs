@@ -1,0 +1,101 @@
+//! The day program's listing.
+
+mod common;
+
+use common::*;
+use second::day::listing;
+use second::encode;
+
+/// The input that the paper describes beside its listing.
+fn example() -> Vec<u8> {
+    [
+        encode::session(OPEN),
+        prices(MAIN, [0, 50_00, 49_75, 50_25]),
+        encode::order(&buy(1, 50_00, 100)),
+        encode::order(&sell(2, 50_00, 100)),
+        encode::cancel(0, 1),
+        encode::cancel(0, 1),
+    ]
+    .concat()
+}
+
+const EXAMPLE: &str = "\
+screen 8 16
+0 2 ok
+1 4 ok
+2 5 accept
+3 5 reject W
+4 6 ok
+5 6 refused 10
+";
+
+#[test]
+fn the_example_of_the_paper() {
+    assert_eq!(listing(&example()), EXAMPLE);
+}
+
+#[test]
+fn nothing_read_is_only_the_opening() {
+    assert_eq!(listing(&[]), "screen 8 16\n");
+}
+
+#[test]
+fn an_unknown_kind_or_a_cut_event_ends_it() {
+    for kind in [0, 8, 255] {
+        let mut input = example();
+        input.push(kind);
+        input.extend(encode::session(OPEN));
+        assert_eq!(listing(&input), format!("{EXAMPLE}6 {kind} refused 3\n"));
+        assert_eq!(
+            listing(&[kind]),
+            format!("screen 8 16\n0 {kind} refused 3\n")
+        );
+    }
+    for (kind, length) in [(1, 5), (2, 2), (3, 14), (4, 20), (5, 21), (6, 7), (7, 11)] {
+        for left in 1..length {
+            let mut input = example();
+            input.push(kind);
+            input.resize(input.len() + left - 1, 1);
+            assert_eq!(listing(&input), format!("{EXAMPLE}6 {kind} refused 2\n"));
+        }
+    }
+}
+
+#[test]
+fn other_refusals_do_not_end_it() {
+    let input = [
+        encode::session(OPEN),
+        encode::cancel(8, 1),
+        encode::clock(86_400_000),
+        encode::clock(5),
+        encode::clock(4),
+        encode::order(&buy(1, 50_00, 0)),
+        encode::match_report(7, 1, 1),
+    ]
+    .concat();
+    assert_eq!(
+        listing(&input),
+        "screen 8 16\n0 2 ok\n1 6 refused 4\n2 1 refused 5\n3 1 ok\n4 1 refused 7\n\
+         5 5 reject V\n6 7 refused 10\n"
+    );
+}
+
+#[test]
+fn at_most_65_536_bytes_are_read() {
+    let whole = encode::session(CLOSED).repeat(32_768);
+    let all = listing(&whole);
+    assert_eq!(all.lines().count(), 1 + 32_768);
+    assert!(all.ends_with("\n32767 2 ok\n"));
+    // What follows is not read, be it another event or an unknown kind.
+    for after in [2, 0, 9] {
+        let mut input = whole.clone();
+        input.push(after);
+        assert_eq!(listing(&input), all);
+    }
+    // An event across the end is cut.
+    let mut input = encode::clock(1);
+    input.extend(whole);
+    let cut = listing(&input);
+    assert_eq!(cut.lines().count(), 1 + 1 + 32_765 + 1);
+    assert!(cut.ends_with("\n32765 2 ok\n32766 2 refused 2\n"));
+}
