@@ -38,6 +38,17 @@ abbrev pub wordsOf : List ℕ → Outcome → List ℕ
 wordsOf w (turned n) = w
 wordsOf w (done a x) = x
 
+-- an answer and the words after it: what a call leaves, and what the outcome says
+pub record Result : Type 0 where
+  pub answer : Answer
+  pub words : List ℕ
+
+abbrev pub result : Answer → List ℕ → Result
+result a w = record { answer = a; words = w }
+
+abbrev pub resultOf : List ℕ → Outcome → Result
+resultOf w o = result (answerOf o) (wordsOf w o)
+
 unfoldable pub viewOf : List ℕ → Event → View
 viewOf w e = record { header = headerOf w; security = securityAt w (securityNamed e); desk = deskAt w (customerNamed e) }
 

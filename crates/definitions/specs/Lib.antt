@@ -9,4 +9,5 @@ pub mod Rules
 pub mod Refusals
 pub mod Gate
 pub mod Lone
+pub mod Walk
 pub mod Answers

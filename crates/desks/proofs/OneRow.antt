@@ -1,0 +1,55 @@
+-- The laws of one row: what becomes of it at each exit of the code.
+-- Assumes nothing.
+use mathlib.Core.Bool.{Bool, true, false, cond, _&&_, not}
+use mathlib.Core.Path.{_≡_, refl, ap, sym, _∙_}
+use Prim.Native.Nat.{ℕ, _+_, _-_, _≤_, _<_}
+use lib.Dec.{leb, eqb}
+use borrow.Author.Tests.{eq-eqb, ne-eqb, le-leb, lt-leb, not-true, not-false}
+use Rattle.definitions.specs.declared.Row.{Row}
+use Rattle.definitions.specs.Codes.{cancelledMark, limit, remembered}
+use Rattle.definitions.specs.Desks.{freeRow, openWith, sweptRow, expiredRow, markedCancelled, cancelledRow, withVolume, matchedRow}
+
+module _ (r : Row) where
+  pub swept-stays : r .ordtype ≡ limit → r ≡ sweptRow r
+  swept-stays t = rw (eq-eqb (r .ordtype) limit t)
+
+  pub swept-goes : (r .ordtype ≡ limit → ⊥) → freeRow ≡ sweptRow r
+  swept-goes t = rw (ne-eqb (r .ordtype) limit t)
+
+-- the definition asks for the mark twice
+expired-once : (t near : Bool) → (t && not near) ≡ (t && not (t && near))
+expired-once true near = refl
+expired-once false near = refl
+
+pub expired-is : (clock : ℕ) (r : Row) {near : Bool} → near ≡ leb clock (r .«cancel_time» + remembered) → (t : Bool)
+    → (eqb (r .mark) cancelledMark && not near) ≡ t → cond t freeRow r ≡ expiredRow clock r
+expired-is clock r {near} e t is =
+    ap (λ b. cond b freeRow r)
+    (sym is ∙ expired-once (eqb (r .mark) cancelledMark) near ∙ ap (λ b. eqb (r .mark) cancelledMark && not (eqb (r .mark) cancelledMark && b)) e)
+
+module _ (number : ℕ) (r : Row) {named : Bool} (e : named ≡ openWith number r) where
+  other : not named ≡ true → openWith number r ≡ false
+  other t = sym e ∙ not-true named t
+
+  same : not named ≡ false → openWith number r ≡ true
+  same t = sym e ∙ not-false named t
+
+  module _ (clock : ℕ) where
+    pub cancelled-other : not named ≡ true → r ≡ cancelledRow number clock r
+    cancelled-other t = rw (other t)
+
+    pub cancelled-goes : not named ≡ false → (r .ordtype ≡ limit → ⊥) → freeRow ≡ cancelledRow number clock r
+    cancelled-goes t s = rw (same t, ne-eqb (r .ordtype) limit s)
+
+    pub cancelled-marked : not named ≡ false → r .ordtype ≡ limit → markedCancelled clock r ≡ cancelledRow number clock r
+    cancelled-marked t s = rw (same t, eq-eqb (r .ordtype) limit s)
+
+  module _ (volume : ℕ) where
+    pub matched-other : not named ≡ true → r ≡ matchedRow number volume r
+    matched-other t = rw (other t)
+
+    pub matched-goes : not named ≡ false → r .volume ≤ volume → freeRow ≡ matchedRow number volume r
+    matched-goes t s = rw (same t, le-leb (r .volume) volume s)
+
+    pub matched-lowered : not named ≡ false → volume < r .volume → withVolume (r .volume - volume) r ≡ matchedRow number volume r
+    matched-lowered t s = rw (same t, lt-leb (r .volume) volume s)

@@ -1,0 +1,252 @@
+// Paper 01, "Events" and "The lone run": how a desk changes, and what the refusals 9 to 12 ask of it.
+ghost use mathlib.Core.Bool.{cond};
+ghost use mathlib.Core.Path.{_≡_};
+ghost use lib.ListN.{replicate};
+ghost use Rattle.definitions.specs.Codes.{deskRows};
+ghost use Rattle.definitions.specs.Desks.{added, cancelled, counted, countedUp, freeRow, live, matched, openWith, ordered, rejects, swept, takesRow, warns};
+ghost use Rattle.definitions.specs.Refusals.{liveWith, openBelow};
+ghost use Rattle.definitions.specs.Lists.{any, count};
+
+mod rows;
+
+use definitions::Desk;
+use definitions::Order;
+use definitions::Verdict;
+use rows::cancelled_row;
+use rows::expired_row;
+use rows::free_row;
+use rows::is_live;
+use rows::live_with;
+use rows::matched_row;
+use rows::open_below;
+use rows::open_with;
+use rows::row_of_order;
+use rows::swept_row;
+
+const MP: u32 = 3;
+
+const MOST_COUNTED: u32 = 4_294_967_295;
+
+// "removes the desk's ATO and ATC rows"
+pub fn swept(d: Desk) -> Desk
+    ensures { λ r. ⌜ r ≡ swept d ⌝ }
+{
+    let mut closed = emptied(d.accepted, d.warned, d.rejected);
+    let mut n: usize = 0;
+    let mut i: usize = 0;
+    while i < 32 {
+        let row = swept_row(d.rows[i]);
+        i += 1;
+        if row.mark != 0 {
+            closed.rows[n] = row;
+            n += 1;
+        }
+    }
+    closed
+}
+
+// "marks an open limit row cancelled at the clock, or removes an ATO or ATC row"
+pub fn cancelled(number: u32, clock: u32, d: Desk) -> Desk
+    ensures { λ r. ⌜ r ≡ cancelled number clock d ⌝ }
+{
+    let mut closed = emptied(d.accepted, d.warned, d.rejected);
+    let mut n: usize = 0;
+    let mut i: usize = 0;
+    while i < 32 {
+        let row = cancelled_row(number, clock, d.rows[i]);
+        i += 1;
+        if row.mark != 0 {
+            closed.rows[n] = row;
+            n += 1;
+        }
+    }
+    closed
+}
+
+// "lowers the volume; at 0 the row goes"
+pub fn matched(number: u32, volume: u32, d: Desk) -> Desk
+    ensures { λ r. ⌜ r ≡ matched number volume d ⌝ }
+{
+    let mut closed = emptied(d.accepted, d.warned, d.rejected);
+    let mut n: usize = 0;
+    let mut i: usize = 0;
+    while i < 32 {
+        let row = matched_row(number, volume, d.rows[i]);
+        i += 1;
+        if row.mark != 0 {
+            closed.rows[n] = row;
+            n += 1;
+        }
+    }
+    closed
+}
+
+// The counters rise first: the two changes are of different fields, and the desk is copied once less.
+pub fn ordered(v: Verdict, clock: u32, o: Order, d: Desk) -> Desk
+    ensures { λ r. ⌜ r ≡ ordered v clock o d ⌝ }
+{
+    let after = counted(v, d);
+    if takes_row(v, o) {
+        return added(clock, o, after);
+    }
+    after
+}
+
+// "Accepted or warned, not MP"
+pub fn takes_row(v: Verdict, o: Order) -> bool
+    ensures { λ r. ⌜ r ≡ takesRow v o ⌝ }
+{
+    !rejects(v) & (o.ordtype != MP)
+}
+
+// 9: "order number equal to that of an open row or a row cancelled at most 60,000 ms ago"
+pub fn number_live(clock: u32, number: u32, d: Desk) -> bool
+    ensures { λ r. ⌜ r ≡ any (liveWith clock number) (d .rows) ⌝ }
+{
+    let mut i: usize = 0;
+    while i < 32 {
+        if live_with(clock, number, d.rows[i]) {
+            return true;
+        }
+        i += 1;
+    }
+    false
+}
+
+// 10: "no open row with the number", where this is false
+pub fn number_open(number: u32, d: Desk) -> bool
+    ensures { λ r. ⌜ r ≡ any (openWith number) (d .rows) ⌝ }
+{
+    let mut i: usize = 0;
+    while i < 32 {
+        if open_with(number, d.rows[i]) {
+            return true;
+        }
+        i += 1;
+    }
+    false
+}
+
+// 11: "match volume .. above the row's"
+pub fn volume_short(number: u32, volume: u32, d: Desk) -> bool
+    ensures { λ r. ⌜ r ≡ any (openBelow number volume) (d .rows) ⌝ }
+{
+    let mut i: usize = 0;
+    while i < 32 {
+        if open_below(number, volume, d.rows[i]) {
+            return true;
+        }
+        i += 1;
+    }
+    false
+}
+
+// 12: "open rows and rows cancelled at most 60,000 ms ago"
+pub fn live_rows(clock: u32, d: Desk) -> u32
+    ensures { λ r. ⌜ r ≡ count (live clock) (d .rows) ⌝ }
+{
+    let mut n: u32 = 0;
+    let mut i: usize = 0;
+    while i < 32 {
+        let counts = is_live(clock, d.rows[i]);
+        i += 1;
+        if counts {
+            n += 1;
+        }
+    }
+    n
+}
+
+// The desk that rows are put on one after the other, so that they close up.
+fn emptied(accepted: u32, warned: u32, rejected: u32) -> Desk
+    ensures { λ r. ⌜ r ≡ record { accepted = accepted; warned = warned; rejected = rejected; rows = replicate deskRows freeRow } ⌝ }
+{
+    let free = free_row();
+    let rows = [free; 32];
+    Desk {
+        accepted: accepted,
+        warned: warned,
+        rejected: rejected,
+        rows: rows,
+    }
+}
+
+// "rows cancelled more than 60,000 ms ago go, then the order stands last as an open row"
+fn added(clock: u32, o: Order, d: Desk) -> Desk
+    ensures { λ r. ⌜ r ≡ added clock o d ⌝ }
+{
+    let last = row_of_order(o);
+    let mut closed = emptied(d.accepted, d.warned, d.rejected);
+    let mut n: usize = 0;
+    let mut i: usize = 0;
+    while i < 32 {
+        let row = expired_row(clock, d.rows[i]);
+        i += 1;
+        if row.mark != 0 {
+            closed.rows[n] = row;
+            n += 1;
+        }
+    }
+    // Refusal 12 keeps an order from a full desk, which would stay as it is.
+    let place = n;
+    if place < 32 {
+        closed.rows[place] = last;
+    }
+    closed
+}
+
+// "Each verdict adds 1 to its counter"
+fn counted(v: Verdict, d: Desk) -> Desk
+    ensures { λ r. ⌜ r ≡ counted v d ⌝ }
+{
+    let rejected = rejects(v);
+    let warned = warns(v);
+    let mut after = d;
+    after.accepted = counted_if(!rejected & !warned, d.accepted);
+    after.warned = counted_if(warned, d.warned);
+    after.rejected = counted_if(rejected, d.rejected);
+    after
+}
+
+// "each stays at 4,294,967,295 once there"
+fn counted_if(counts: bool, n: u32) -> u32
+    ensures { λ r. ⌜ r ≡ cond counts (countedUp n) n ⌝ }
+{
+    if !counts {
+        return n;
+    }
+    if n < MOST_COUNTED {
+        return n + 1;
+    }
+    n
+}
+
+fn rejects(v: Verdict) -> bool
+    ensures { λ r. ⌜ r ≡ rejects v ⌝ }
+{
+    match v {
+        Verdict::RejectS => true,
+        Verdict::RejectV => true,
+        Verdict::RejectQ => true,
+        Verdict::RejectW => true,
+        Verdict::RejectP => true,
+        Verdict::Warn30 => false,
+        Verdict::Warn10 => false,
+        Verdict::Accept => false,
+    }
+}
+
+fn warns(v: Verdict) -> bool
+    ensures { λ r. ⌜ r ≡ warns v ⌝ }
+{
+    match v {
+        Verdict::RejectS => false,
+        Verdict::RejectV => false,
+        Verdict::RejectQ => false,
+        Verdict::RejectW => false,
+        Verdict::RejectP => false,
+        Verdict::Warn30 => true,
+        Verdict::Warn10 => true,
+        Verdict::Accept => false,
+    }
+}

@@ -1,0 +1,31 @@
+-- What handing a list of events to the gate leaves, and demand 3 of it.
+use mathlib.Core.Bool.{Bool, true, cond}
+use mathlib.Core.List.{List, [], _∷_, _++_, map}
+use mathlib.Core.Path.{_≡_}
+use Prim.Native.Nat.{ℕ, _<_}
+use lib.ListN.{length, take, drop}
+use Rattle.definitions.specs.Lists.{keep}
+use Rattle.definitions.specs.State.{sizesFit, fresh, deskWords}
+use Rattle.definitions.specs.Gate.{wordsAfter, answersTo}
+use Rattle.definitions.specs.Lone.{loneFresh, loneAfter, loneAnswers, concerns, marketWords, customerWords}
+use Rattle.definitions.specs.Walk.{split}
+use Rattle.definitions.specs.Answers.{answerNumber}
+
+-- of the answers to some events, those to the events that a test picks
+unfoldable pub picked : (List ℕ → Bool) → List (List ℕ) → List ℕ → List ℕ
+picked p [] xs = []
+picked p (b ∷ bs) [] = []
+picked p (b ∷ bs) (x ∷ xs) = cond (p b) (x ∷ picked p bs xs) (picked p bs xs)
+
+-- "these answers, rows, counters and words are exactly those of the lone run": the answers as numbers, the market's words, every word of k's desk
+pub record Alone (customers securities k : ℕ) (history : List (List ℕ)) (answers words : List ℕ) : Type 0 where
+  pub answers-same : picked (concerns customers k) history answers ≡ map answerNumber (loneAnswers (loneFresh customers securities) (keep (concerns customers k) history))
+  pub market-same : marketWords words ≡ loneAfter (loneFresh customers securities) (keep (concerns customers k) history) .market
+  pub desk-same : customerWords words k ≡ deskWords (loneAfter (loneFresh customers securities) (keep (concerns customers k) history) .desk)
+
+-- the words w, the bytes b and the places a for answers came; the count, the words v and the answers c are left
+pub record Ran (w b a : List ℕ) (count : ℕ) (v c : List ℕ) : Type 0 where
+  pub events-counted : count ≡ length (split (length a) b)
+  pub words-after : v ≡ wordsAfter w (split (length a) b)
+  pub answers-written : c ≡ map answerNumber (answersTo (λ _. true) w (split (length a) b)) ++ drop count a
+  pub alone : (customers securities : ℕ) → sizesFit customers securities ≡ true → w ≡ fresh customers securities → (k : ℕ) → k < customers → Alone customers securities k (split (length a) b) (take count c) v

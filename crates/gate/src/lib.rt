@@ -1,0 +1,75 @@
+// The gate: lent words and one event's bytes to an answer. Every refusal comes before the first word is written.
+ghost use mathlib.Core.Bool.{true};
+ghost use mathlib.Core.Path.{_≡_};
+ghost use Rattle.definitions.specs.State.{stateFits};
+ghost use Rattle.definitions.specs.Gate.{result, resultOf, stepEvent, step, made};
+ghost use Rattle.gate.specs.Reading.{refusedBy};
+use definitions::Answer;
+use definitions::Event;
+use definitions::Reading;
+
+mod cancel;
+mod clock;
+mod history;
+mod match_report;
+mod order;
+mod prices;
+mod session;
+mod setup;
+
+pub use history::answer_number;
+pub use history::run;
+
+// One event's bytes, handed to the gate over lent words. Total on every slice of words and of bytes.
+pub fn handle(words: &mut [u32], event: &[u8]) -> Answer
+    ensures { λ r.
+        ⌜ result r (now (words .exit)) ≡ resultOf (now (words .entry)) (step (now (words .entry)) (now (event .entry))) ⌝ }
+{
+    if !records::state_fits(words) {
+        return Answer::Refused(1);
+    }
+    let reading = events::read_event(event);
+    let Reading::Whole(whole) = reading else {
+        return refused(reading);
+    };
+    apply(words, whole)
+}
+
+// A fresh state of C customers and S securities, made in lent words.
+pub fn make(words: &mut [u32], customers: u32, securities: u32) -> Answer
+    ensures { λ r.
+        ⌜ result r (now (words .exit)) ≡ resultOf (now (words .entry)) (made (now (words .entry)) customers securities) ⌝ }
+{
+    if !records::sizes_fit(customers, securities) {
+        return Answer::Refused(1);
+    }
+    if words.len() != records::desk_place(securities, customers) {
+        return Answer::Refused(1);
+    }
+    records::make_fresh(words, customers, securities);
+    Answer::Ok
+}
+
+fn apply(words: &mut [u32], event: Event) -> Answer
+    requires { ⌜ stateFits (now words) ≡ true ⌝ }
+    ensures { λ r. ⌜ result r (now (words .exit)) ≡ resultOf (now (words .entry)) (stepEvent (now (words .entry)) event) ⌝ }
+{
+    match event {
+        Event::Clock(time) => clock::handle(words, time),
+        Event::Session(s) => session::handle(words, s),
+        Event::Setup(x) => setup::handle(words, x),
+        Event::Prices(x) => prices::handle(words, x),
+        Event::Order(k, x) => order::handle(words, k, x),
+        Event::Cancel(k, x) => cancel::handle(words, k, x),
+        Event::Match(k, x) => match_report::handle(words, k, x),
+    }
+}
+
+fn refused(reading: Reading) -> Answer
+    ensures { λ r. ⌜ r ≡ refusedBy reading ⌝ }
+{
+    match reading {
+        Reading::Refused(n) => Answer::Refused(n),
+        Reading::Whole(_) => Answer::Ok,
+    }
+}

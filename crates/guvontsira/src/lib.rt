@@ -1,0 +1,55 @@
+// What a user links: the gate and the ladder under C's calling convention. Answers are numbers (crates/definitions/specs/Answers.antt).
+ghost use mathlib.Core.Path.{_≡_};
+ghost use Rattle.ladder.specs.Ladder.{positionOf, priceAt};
+ghost use Rattle.definitions.specs.Rules.{positionNumber};
+ghost use Rattle.definitions.specs.Answers.{answerNumber};
+ghost use Rattle.definitions.specs.Gate.{answerOf, wordsOf, step, made};
+ghost use Rattle.gate.specs.Ran.{Ran};
+use ladder::Ladder;
+use ladder::Position;
+
+#[no_mangle]
+pub extern "C" fn guvontsira_make(words: &mut [u32], customers: u32, securities: u32) -> u32
+    ensures { λ r.
+        ⌜ (r ≡ answerNumber (answerOf (made (now (words .entry)) customers securities)))
+        × (now (words .exit) ≡ wordsOf (now (words .entry)) (made (now (words .entry)) customers securities)) ⌝ }
+{
+    gate::answer_number(gate::make(words, customers, securities))
+}
+
+#[no_mangle]
+pub extern "C" fn guvontsira_handle(words: &mut [u32], event: &[u8]) -> u32
+    ensures { λ r.
+        ⌜ (r ≡ answerNumber (answerOf (step (now (words .entry)) (now (event .entry)))))
+        × (now (words .exit) ≡ wordsOf (now (words .entry)) (step (now (words .entry)) (now (event .entry)))) ⌝ }
+{
+    gate::answer_number(gate::handle(words, event))
+}
+
+#[no_mangle]
+pub extern "C" fn guvontsira_run(words: &mut [u32], events: &[u8], answers: &mut [u32]) -> usize
+    ensures { λ count.
+        ⌜ Ran (now (words .entry)) (now (events .entry)) (now (answers .entry)) count (now (words .exit)) (now (answers .exit)) ⌝ }
+{
+    gate::run(words, events, answers)
+}
+
+// 0 for a price off the ladder.
+#[no_mangle]
+pub extern "C" fn guvontsira_position(price: u32) -> u32
+    ensures { λ r. ⌜ r ≡ positionNumber (positionOf price) ⌝ }
+{
+    let position = Ladder::position(price);
+    match position {
+        Position::At(k) => k,
+        Position::Off => 0,
+    }
+}
+
+// 0 for a number that is no position.
+#[no_mangle]
+pub extern "C" fn guvontsira_price(position: u32) -> u32
+    ensures { λ r. ⌜ r ≡ priceAt position ⌝ }
+{
+    Ladder::price(position)
+}

@@ -1,0 +1,77 @@
+-- What stands at a position of lent bytes: one law for each exit of `step_at`, and what a loop over the events learns of a step.
+-- Assumes nothing.
+use mathlib.Core.Bool.{Bool, true, false, cond, _||_}
+use mathlib.Core.List.{List}
+use mathlib.Core.Path.{_≡_, refl}
+use Prim.Native.Nat.{ℕ, _+_, _-_, _≤_, _<_}
+use native.Mathlib.Nat.{add-zero}
+use native.Mathlib.Omega.{arith}
+use lib.Dec.{ltb, eqb}
+use lib.ListN.{length, getD, drop, length-drop}
+use lib.Seq.{getD-drop}
+use borrow.Author.Tests.{ltb-false, eqb-false, lt-ltb, le-ltb, le-leb, lt-leb, eq-eqb, ne-eqb}
+use Rattle.definitions.specs.Events.{lengthOf}
+use Rattle.definitions.specs.Walk.{taken}
+use Rattle.reader.specs.declared.Step.the-variants.{Event, End}
+use Rattle.reader.specs.Steps.{stepAt}
+
+-- as `taken` has it, of the number of bytes left and of the length of their kind
+abbrev takes : ℕ → ℕ → ℕ
+takes left n = cond (eqb n 0 || ltb left n) left n
+
+module _ (b : List ℕ) (at : ℕ) where
+  pub no-event : length b ≤ at → End ≡ stepAt b at
+  unfolding stepAt
+  no-event h = rw (le-leb _ _ h)
+
+  some-event : at < length b → stepAt b at ≡ Event (at + taken (drop at b))
+  unfolding stepAt
+  some-event h = rw (lt-leb _ _ h)
+
+  taken-at : {n : ℕ} → n ≡ lengthOf (getD b at 0) → taken (drop at b) ≡ takes (length b - at) n
+  unfolding taken
+  taken-at of-kind = rw (length-drop, getD-drop, add-zero, of-kind)
+
+  module _ {n : ℕ} (some : at < length b) (of-kind : n ≡ lengthOf (getD b at 0)) where
+    pub unknown-kind : n ≡ 0 → Event (at + (length b - at)) ≡ stepAt b at
+    unknown-kind e = rw (some-event some, taken-at of-kind, eq-eqb n 0 e)
+
+    pub short-event : (n ≡ 0 → ⊥) → length b - at < n → Event (at + (length b - at)) ≡ stepAt b at
+    short-event known h = rw (some-event some, taken-at of-kind, ne-eqb n 0 known, lt-ltb (length b - at) n h)
+
+    pub whole-event : (n ≡ 0 → ⊥) → n ≤ length b - at → Event (at + n) ≡ stepAt b at
+    whole-event known h = rw (some-event some, taken-at of-kind, ne-eqb n 0 known, le-ltb (length b - at) n h)
+
+-- of some bytes, at least one and at most all
+record Part (left n : ℕ) : Type 0 where
+  least : 0 < takes left n
+  most : takes left n ≤ left
+
+part : (left n : ℕ) → 0 < left → Part left n
+part left n h = go (eqb n 0) refl (ltb left n) refl where
+  go : (unknown : Bool) → eqb n 0 ≡ unknown → (short : Bool) → ltb left n ≡ short → Part left n
+  go true z short s = record { least = rw z h; most = rw z (omega arith) }
+  go false z true s = record { least = rw (z, s) h; most = rw (z, s) (omega arith) }
+  go false z false s = record { least = rw (z, s) (omega (arith, eqb-false n 0 z)); most = rw (z, s) (ltb-false left n s) }
+
+-- what a loop learns of an event at a position: where it ends, and so that the position grows and stays within the bytes
+pub record EventAt (b : List ℕ) (at end : ℕ) : Type 0 where
+  pub some : at < length b
+  pub ends : end ≡ at + taken (drop at b)
+  pub grows : at < end
+  pub within : end ≤ length b
+
+module _ (b : List ℕ) (at : ℕ) where
+  pub event-at : (end : ℕ) → stepAt b at ≡ Event end → EventAt b at end
+  event-at end e =
+      let over : length b ≤ at → ⊥ = λ h. let z : _≡_ {A = ℕ} 0 1 = cc (no-event b at h) in omega arith in
+      let some : at < length b = omega arith in
+      let ends : end ≡ at + taken (drop at b) = cc (some-event b at some) in
+      let left = part (length b - at) (lengthOf (getD b at 0)) (omega arith) in
+      let takes = taken-at b at refl in
+      record { some = some; ends = ends; grows = omega arith; within = omega arith }
+
+  pub end-at : stepAt b at ≡ End → length b ≤ at
+  end-at e =
+      let more : at < length b → ⊥ = λ h. let z : _≡_ {A = ℕ} 0 1 = cc (some-event b at h) in omega arith in
+      omega arith

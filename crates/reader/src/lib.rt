@@ -1,0 +1,51 @@
+// Paper 01, "The day program": it "walks the lent bytes with one event reader". The borrow checker covers no function over a struct that holds a
+// reference, so the work is in `step_at`, over a plain slice, and the functions over the struct are thin.
+ghost use mathlib.Core.Path.{_≡_};
+ghost use Rattle.reader.specs.Steps.{stepAt};
+use events::length_of;
+
+// What stands at a position: an event, with the position after its last byte, or nothing.
+pub enum Step {
+    Event(usize),
+    End,
+}
+
+pub struct EventReader<'a> {
+    pub bytes: &'a [u8],
+    pub at: usize,
+}
+
+// "`refused 2` or `refused 3` ends the listing": what is no whole event takes all that is left.
+pub fn step_at(bytes: &[u8], at: usize) -> Step
+    ensures { λ r. ⌜ r ≡ stepAt (now (bytes .entry)) at ⌝ }
+{
+    if bytes.len() <= at {
+        return Step::End;
+    }
+    let left = bytes.len() - at;
+    let length = length_of(bytes[at]);
+    let whole = if length == 0 { left } else { length };
+    if left < whole {
+        return Step::Event(at + left);
+    }
+    Step::Event(at + whole)
+}
+
+pub fn reader_at<'a>(bytes: &'a [u8], at: usize) -> EventReader<'a>
+    ensures { λ r. ⌜ (r .bytes ≡ bytes .entry) × (r .at ≡ at) ⌝ }
+{
+    EventReader { bytes, at }
+}
+
+pub fn next<'a>(r: EventReader<'a>) -> Step
+    ensures { λ s. ⌜ s ≡ stepAt (now (r .entry .bytes)) (r .entry .at) ⌝ }
+{
+    step_at(r.bytes, r.at)
+}
+
+// The parameters are plain, so that a caller needs no walk by hand.
+pub fn next_event(bytes: &[u8], at: usize) -> Step
+    ensures { λ s. ⌜ s ≡ stepAt (now (bytes .entry)) at ⌝ }
+{
+    next(reader_at(bytes, at))
+}

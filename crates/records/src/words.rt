@@ -1,0 +1,63 @@
+// Paper 01, "The lent state": where each record stands, and what condition 1 asks of the words.
+ghost use mathlib.Core.Path.{_≡_};
+ghost use Prim.Native.Nat.{_+_, _≤_};
+ghost use lib.ListN.{length};
+ghost use Rattle.definitions.specs.Lists.{put};
+ghost use Rattle.definitions.specs.State.{securityPlace, deskPlace, headerOf, sizesFit, stateFits};
+use definitions::Header;
+
+// The places are 64 bits wide: no number of customers or securities that the words may hold makes the sum wrap.
+pub fn security_place(s: u32) -> usize
+    ensures { λ r. ⌜ r ≡ securityPlace s ⌝ }
+{
+    4 + 13 * (s as usize)
+}
+
+pub fn desk_place(securities: u32, k: u32) -> usize
+    ensures { λ r. ⌜ r ≡ deskPlace securities k ⌝ }
+{
+    4 + 13 * (securities as usize) + 291 * (k as usize)
+}
+
+pub fn header_of(words: &[u32]) -> Header
+    requires { ⌜ 4 ≤ length (now words) ⌝ }
+    ensures { λ r. ⌜ r ≡ headerOf (now (words .entry)) ⌝ }
+{
+    Header {
+        customers: words[0],
+        securities: words[1],
+        clock: words[2],
+        session: words[3],
+    }
+}
+
+pub fn sizes_fit(customers: u32, securities: u32) -> bool
+    ensures { λ r. ⌜ r ≡ sizesFit customers securities ⌝ }
+{
+    (1 <= customers) & (customers <= 256) & (1 <= securities) & (securities <= 1_024)
+}
+
+pub fn state_fits(words: &[u32]) -> bool
+    ensures { λ r. ⌜ r ≡ stateFits (now (words .entry)) ⌝ }
+{
+    let count = words.len();
+    if count < 4 {
+        return false;
+    }
+    let h = header_of(words);
+    sizes_fit(h.customers, h.securities)
+        & (count == desk_place(h.securities, h.customers))
+        & (h.clock <= 86_399_999)
+        & (h.session <= 4)
+}
+
+pub fn copy_in(dst: &mut [u32], at: usize, src: &[u32])
+    requires { ⌜ at + length (now src) ≤ length (now dst) ⌝ }
+    ensures { λ _. ⌜ now (dst .exit) ≡ put (now (dst .entry)) at (now (src .entry)) ⌝ }
+{
+    let mut i = 0;
+    while i < src.len() {
+        dst[at + i] = src[i];
+        i += 1;
+    }
+}

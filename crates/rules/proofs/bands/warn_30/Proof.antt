@@ -1,0 +1,19 @@
+-- `rules::bands::warn_30` meets its contract: the band is taken about the reference that the paper names.
+-- Assumes nothing.
+use borrow.Author.Needs.{needs}
+use Rattle.definitions.specs.Rules.{warn30}
+use Rattle.rules.proofs.bands.warn_30.Statement.{statement}
+use Rattle.rules.proofs.bands.warn_30.Tie as tie
+
+reference-30-requires : tie.Need-reference-30-requires
+reference-30-requires c κs = search needs
+
+outside-30-requires : tie.Need-outside-30-requires
+outside-30-requires c κs = search needs
+
+returns : tie.Need-returns
+unfolding warn30
+returns c = cc
+
+pub warn-30-spec : {M : Type 1} → statement M
+warn-30-spec = tie.close (tie.spec reference-30-requires outside-30-requires returns)

@@ -1,0 +1,14 @@
+-- `rules::boards::main_last_sale` meets its contract: the choice is the definition's, term by term.
+-- Assumes nothing.
+use borrow.Author.Needs.{needs}
+use Rattle.rules.proofs.boards.main_last_sale.Statement.{statement}
+use Rattle.rules.proofs.boards.main_last_sale.Tie as tie
+
+pick-requires : tie.Need-pick-requires
+pick-requires c κs = search needs
+
+returns : tie.Need-returns
+returns c = c .pick .ensures
+
+pub main-last-sale-spec : {M : Type 1} → statement M
+main-last-sale-spec = tie.close (tie.spec pick-requires returns)

@@ -1,0 +1,67 @@
+-- `rules::rows::rule_p` meets its contract: only an order that the rule concerns is held against the rows, and the loop looks at all of them.
+-- Assumes nothing.
+use Prim.Native.Nat.{_-_}
+use native.Mathlib.Omega.{arith}
+use borrow.Author.Needs.{needs}
+use Rattle.definitions.specs.Codes.{deskRows}
+use Rattle.definitions.specs.Rules.{recalled, ruleP}
+use Rattle.rules.proofs.Laws.{refused, passed, length-mapped, Seen, seen-none, seen-next, seen-end}
+use Rattle.rules.proofs.rows.rule_p.Statement.{statement}
+use Rattle.rules.proofs.rows.rule_p.Tie as tie
+
+abbrev Inv-loop : tie.InvT-loop
+Inv-loop session clock o d found₀ i₀ found i = Seen (recalled clock o) (d .rows) found i
+
+abbrev μ-loop : tie.MeasureT-loop
+μ-loop session clock o d found₀ i₀ found i = deskRows - i
+
+concerns-p-requires : tie.Need-concerns-p-requires Inv-loop μ-loop
+concerns-p-requires c κs = search needs
+
+returns : tie.Need-returns Inv-loop μ-loop
+unfolding ruleP
+returns c = rw (refused (c .before .concerns-p .ensures) (c .if1 .taken))
+
+loop-holds : tie.Need-loop-holds Inv-loop μ-loop
+loop-holds c = seen-none _ _ (search (needs, length-mapped))
+
+mul-r : tie.Need-mul-r Inv-loop μ-loop
+mul-r c = search needs
+
+element-copy-out-r : tie.Need-element-copy-out-r Inv-loop μ-loop
+element-copy-out-r c = search needs
+
+recalled-requires : tie.Need-recalled-requires Inv-loop μ-loop
+recalled-requires c κs = search needs
+
+add-i : tie.Need-add-i Inv-loop μ-loop
+add-i c = search needs
+
+loop-less : tie.Need-loop-less Inv-loop μ-loop
+loop-less c = omega arith
+
+loop-again : tie.Need-loop-again Inv-loop μ-loop
+loop-again c = seen-next _ _ _ _ _ _ (omega arith) (c .recalled .ensures) (c .before .before .before .loop .inv)
+
+returns-2 : tie.Need-returns-2 Inv-loop μ-loop
+unfolding ruleP
+returns-2 c =
+    rw (passed (c .before .before .before .concerns-p .ensures) (c .before .before .if1 .left))
+    (seen-end _ _ _ _ (c .loop-test .left) (c .before .loop .inv))
+
+pub rule-p-spec : {M : Type 1} → statement M
+rule-p-spec =
+    tie.close
+    (tie.spec
+    Inv-loop
+    μ-loop
+    concerns-p-requires
+    returns
+    loop-holds
+    mul-r
+    element-copy-out-r
+    recalled-requires
+    add-i
+    loop-less
+    loop-again
+    returns-2)

@@ -1,0 +1,68 @@
+-- `rules::rows::rule_w` meets its contract: only an online order is held against the rows, and the loop looks at all of them.
+-- Assumes nothing.
+use Prim.Native.Nat.{_-_}
+use native.Mathlib.Omega.{arith}
+use borrow.Author.Needs.{needs}
+use borrow.Author.Tests.{eq-eqb, ne-eqb}
+use Rattle.definitions.specs.Codes.{deskRows}
+use Rattle.definitions.specs.Rules.{ownMatch, ruleW}
+use Rattle.rules.proofs.Laws.{length-mapped, Seen, seen-none, seen-next, seen-end}
+use Rattle.rules.proofs.rows.rule_w.Statement.{statement}
+use Rattle.rules.proofs.rows.rule_w.Tie as tie
+
+abbrev Inv-loop : tie.InvT-loop
+Inv-loop session o d b found₀ i₀ found i = Seen (ownMatch session b o) (d .rows) found i
+
+abbrev μ-loop : tie.MeasureT-loop
+μ-loop session o d b found₀ i₀ found i = deskRows - i
+
+returns : tie.Need-returns Inv-loop μ-loop
+unfolding ruleW
+returns c = rw (ne-eqb _ _ (c .if1 .taken))
+
+board-named-requires : tie.Need-board-named-requires Inv-loop μ-loop
+board-named-requires c κs = search needs
+
+loop-holds : tie.Need-loop-holds Inv-loop μ-loop
+loop-holds c = seen-none _ _ (search (needs, length-mapped))
+
+mul-r : tie.Need-mul-r Inv-loop μ-loop
+mul-r c = search needs
+
+element-copy-out-r : tie.Need-element-copy-out-r Inv-loop μ-loop
+element-copy-out-r c = search needs
+
+own-match-requires : tie.Need-own-match-requires Inv-loop μ-loop
+own-match-requires c κs = search needs
+
+add-i : tie.Need-add-i Inv-loop μ-loop
+add-i c = search needs
+
+loop-less : tie.Need-loop-less Inv-loop μ-loop
+loop-less c = omega arith
+
+loop-again : tie.Need-loop-again Inv-loop μ-loop
+loop-again c = seen-next _ _ _ _ _ _ (omega arith) (c .own-match .ensures) (c .before .before .before .loop .inv)
+
+returns-2 : tie.Need-returns-2 Inv-loop μ-loop
+unfolding ruleW
+returns-2 c =
+    rw (eq-eqb _ _ (c .before .before .before .if1 .left), ← c .before .before .board-named .ensures)
+    (seen-end _ _ _ _ (c .loop-test .left) (c .before .loop .inv))
+
+pub rule-w-spec : {M : Type 1} → statement M
+rule-w-spec =
+    tie.close
+    (tie.spec
+    Inv-loop
+    μ-loop
+    returns
+    board-named-requires
+    loop-holds
+    mul-r
+    element-copy-out-r
+    own-match-requires
+    add-i
+    loop-less
+    loop-again
+    returns-2)

@@ -1,0 +1,15 @@
+-- `rules::rows::within_minute` meets its contract: the code's test is the definition's, term by term.
+-- Assumes nothing.
+use mathlib.Core.Path.{refl}
+use borrow.Author.Needs.{needs}
+use Rattle.rules.proofs.rows.within_minute.Statement.{statement}
+use Rattle.rules.proofs.rows.within_minute.Tie as tie
+
+add-result : tie.Need-add-result
+add-result c = search needs
+
+returns : tie.Need-returns
+returns c = refl
+
+pub within-minute-spec : {M : Type 1} → statement M
+within-minute-spec = tie.close (tie.spec add-result returns)

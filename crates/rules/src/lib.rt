@@ -1,0 +1,52 @@
+// Paper 01, "Verdicts, first that applies". A rule is given the session, the clock, one security, one desk and one order: no customer's
+// number and no words.
+ghost use mathlib.Core.Path.{_≡_};
+ghost use Rattle.definitions.specs.Rules.{verdictOf};
+
+mod bands;
+mod boards;
+mod codes;
+mod hours;
+mod positions;
+mod rows;
+mod size;
+
+use crate::bands::rule_q;
+use crate::bands::warn_30;
+use crate::hours::rule_s;
+use crate::positions::warn_10;
+use crate::rows::rule_p;
+use crate::rows::rule_w;
+use crate::size::rule_v;
+use definitions::Desk;
+use definitions::Order;
+use definitions::Security;
+use definitions::Verdict;
+
+// The rows are walked only for an order that S, V and Q let pass.
+pub fn verdict(session: u32, clock: u32, s: Security, d: Desk, o: Order) -> Verdict
+    ensures { λ r. ⌜ r ≡ verdictOf session clock s d o ⌝ }
+{
+    if rule_s(session, s, o) {
+        return Verdict::RejectS;
+    }
+    if rule_v(s, o) {
+        return Verdict::RejectV;
+    }
+    if rule_q(session, s, o) {
+        return Verdict::RejectQ;
+    }
+    if rule_w(session, s, d, o) {
+        return Verdict::RejectW;
+    }
+    if rule_p(session, clock, d, o) {
+        return Verdict::RejectP;
+    }
+    if warn_30(session, s, o) {
+        return Verdict::Warn30;
+    }
+    if warn_10(session, s, o) {
+        return Verdict::Warn10;
+    }
+    Verdict::Accept
+}
