@@ -1,0 +1,98 @@
+-- `day::list` is safe and ends: the position grows with each event and stays within the bytes, and the index is at most the position.
+-- Assumes nothing.
+use mathlib.Core.Path.{_≡_, refl, sym, _∙_}
+use Prim.Native.Nat.{_-_, _≤_}
+use native.Mathlib.Nat.{le-of-lt}
+use native.Mathlib.Omega.{arith}
+use lib.ListN.{length}
+use borrow.Author.Needs.{needs}
+use Rattle.reader.proofs.Laws.{EventAt, event-at}
+use Rattle.day.proofs.list.Statement.{statement}
+use Rattle.day.proofs.list.Tie as tie
+
+abbrev Inv-loop : tie.InvT-loop
+Inv-loop words₀ bytes at₀ index₀ words at index = (at ≤ length bytes) × (index ≤ at) × (length words ≡ length words₀)
+
+abbrev μ-loop : tie.MeasureT-loop
+μ-loop words₀ bytes at₀ index₀ words at index = length bytes - at
+
+-- the event that the reader found
+here : (c : tie.After-step Inv-loop μ-loop) → EventAt (c .before .before .before .before .before .before .before .args .bytes .now) (c .before .before .before .before .loop .at) (c .step .given .0 .0)
+here c = event-at _ _ _ (sym (c .before .before .next-event .ensures) ∙ c .step .given .1)
+
+loop-holds : tie.Need-loop-holds Inv-loop μ-loop
+loop-holds c = (omega arith, omega arith, refl)
+
+next-event-requires : tie.Need-next-event-requires Inv-loop μ-loop
+next-event-requires c κs = search needs
+
+enum-known-step : tie.Need-enum-known-step Inv-loop μ-loop
+enum-known-step c = search needs
+
+enum-told : tie.Need-enum-told Inv-loop μ-loop
+enum-told c = search needs
+
+same-length : tie.Need-same-length Inv-loop μ-loop
+same-length c = c .before .before .before .before .loop .inv .2
+
+returns : tie.Need-returns Inv-loop μ-loop
+returns c = search needs
+
+sub-handle : tie.Need-sub-handle Inv-loop μ-loop
+sub-handle c = omega (arith, here (c .before .before) .grows)
+
+part-handle-start : tie.Need-part-handle-start Inv-loop μ-loop
+part-handle-start c = le-of-lt (here (c .before .before) .grows)
+
+part-handle-end : tie.Need-part-handle-end Inv-loop μ-loop
+part-handle-end c = here (c .before .before) .within
+
+handle-requires : tie.Need-handle-requires Inv-loop μ-loop
+handle-requires c κs = search needs
+
+shared-slice-read-line : tie.Need-shared-slice-read-line Inv-loop μ-loop
+shared-slice-read-line c = here (c .before .before .before .before .before .before .before) .some
+
+line-requires : tie.Need-line-requires Inv-loop μ-loop
+line-requires c κs = search needs
+
+add-index : tie.Need-add-index Inv-loop μ-loop
+add-index c = omega (arith, here (c .before .before .before .before .before .before .before .before) .some, c .before .before .before .before .before .before .before .before .before .before .before .before .loop .inv .1, c .before .before .before .before .before .before .before .before .before .before .before .before .before .before .before .good .1)
+
+loop-less : tie.Need-loop-less Inv-loop μ-loop
+loop-less c = let h = here (c .before .before .before .before .before .before .before .before) in omega (arith, h .grows, h .within)
+
+loop-again : tie.Need-loop-again Inv-loop μ-loop
+loop-again c =
+    let h = here (c .before .before .before .before .before .before .before .before) in
+    (h .within, omega (arith, h .grows, c .before .before .before .before .before .before .before .before .before .before .before .before .loop .inv .1), c .before .before .before .before .handle .kept .0 ∙ c .before .before .before .before .before .before .before .before .before .before .before .before .loop .inv .2)
+
+same-length-2 : tie.Need-same-length-2 Inv-loop μ-loop
+same-length-2 c = c .before .loop .inv .2
+
+returns-2 : tie.Need-returns-2 Inv-loop μ-loop
+returns-2 c = search needs
+
+pub list-spec : {M : Type 1} → statement M
+list-spec =
+    tie.close
+    (tie.spec
+    Inv-loop
+    μ-loop
+    loop-holds
+    next-event-requires
+    enum-known-step
+    enum-told
+    same-length
+    returns
+    sub-handle
+    part-handle-start
+    part-handle-end
+    handle-requires
+    shared-slice-read-line
+    line-requires
+    add-index
+    loop-less
+    loop-again
+    same-length-2
+    returns-2)
