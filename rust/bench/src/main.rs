@@ -1,0 +1,63 @@
+//! Times the linked order gate beside the second implementation and prints one
+//! table. It tests nothing.
+
+mod list;
+mod measure;
+mod mixture;
+
+use std::process::ExitCode;
+
+use measure::{REPEATS, measure};
+use mixture::{Mixture, prepare};
+
+const CUSTOMERS: [u32; 3] = [1, 16, 256];
+const SECURITIES: [u32; 3] = [1, 64, 1_024];
+
+const MEASURED: &str = "\
+Nanoseconds an event, one call an event, from events prepared beforehand; the
+same list for the linked gate and for the second implementation, which take
+turns. Before each repeat the words are set anew: an open session, prices for
+every security, 10 open rows on every desk. The median of the repeats is shown.
+  order-heavy   of 4 events: an order that leaves a row, an MP order, an order
+                that is rejected, a match of a whole row
+  cancel-heavy  of 3 events: an order that leaves a row, a match of a part, a
+                cancel; beside them clocks, for about 5 cancels a minute
+  market-heavy  of 10 events: 7 prices, 2 clocks, 1 setup
+  session       session changes only; each reads every record
+";
+
+fn main() -> ExitCode {
+    if cfg!(debug_assertions) {
+        eprintln!("built without optimization: use cargo run --release");
+    }
+    println!("{MEASURED}Repeats: {REPEATS}\n");
+    println!(
+        "{:<14}{:>10}{:>12}{:>10}{:>12}{:>12}{:>8}",
+        "mixture", "customers", "securities", "events", "gate ns", "second ns", "ratio"
+    );
+    for mixture in Mixture::ALL {
+        for customers in CUSTOMERS {
+            for securities in SECURITIES {
+                if !line(mixture, customers, securities) {
+                    eprintln!("the two left different words: run checks");
+                    return ExitCode::FAILURE;
+                }
+            }
+        }
+    }
+    ExitCode::SUCCESS
+}
+
+fn line(mixture: Mixture, customers: u32, securities: u32) -> bool {
+    let list = prepare(mixture, customers, securities);
+    let measured = measure(&list);
+    println!(
+        "{:<14}{customers:>10}{securities:>12}{:>10}{:>12.1}{:>12.1}{:>8.2}",
+        mixture.name(),
+        list.len(),
+        measured.gate,
+        measured.second,
+        measured.gate / measured.second
+    );
+    measured.alike
+}

@@ -1,0 +1,126 @@
+//! States to damage, and events to hand to them.
+
+use second::gate;
+use second::state::Header;
+
+use crate::layout::fresh;
+
+pub const CUSTOMERS: u32 = 2;
+pub const SECURITIES: u32 = 3;
+
+/// An open session: open rows on both boards and sides, and cancelled ones.
+const OPEN: &str = "\
+clock 10:00:00
+session open
+setup 0 lot 100 free close 50.00
+setup 1 lot 50 free first-day close 10.00 ipo 10.01
+setup 2 lot 1 close 400.00
+prices 0 main last 50.00 bid 49.75 offer 50.25
+prices 0 foreign last 51.00 bid 50.75 offer 51.25
+prices 1 main last 10.00
+order 0 no 1 security 0 main buy limit 50.00 x 60000 online
+order 0 no 2 security 0 main buy limit 49.75 x 60400 online
+order 0 no 3 security 0 foreign sell limit 51.00 x 200 dma
+order 0 no 4 security 2 main sell limit 400.00 x 7 front
+order 1 no 1 security 1 main sell limit 14.00 x 50 online
+order 1 no 2 security 1 main sell limit 13.00 x 50 online
+cancel 0 no 2
+cancel 1 no 2
+clock 10:00:30
+cancel 0 no 4
+";
+
+/// Before the opening: ATO rows, projected prices.
+const PRE_OPEN: &str = "\
+clock 09:45:00
+session pre-open
+setup 0 lot 100 free first-day close 24.50 ipo 24.00
+prices 0 main projected 24.50 last 24.60 bid 24.40 offer 24.60
+prices 0 foreign projected 25.00
+prices 1 main projected 100.00
+order 0 no 1 security 0 main buy ato x 100 online
+order 0 no 2 security 0 main buy limit 24.40 x 500 online
+order 0 no 3 security 0 foreign sell ato x 100 dma
+order 0 no 4 security 1 main sell limit 100.50 x 100 front
+cancel 0 no 2
+clock 09:46:00.001
+order 1 no 1 security 1 main sell ato x 100 front
+";
+
+/// A desk with 32 rows; every third of them is cancelled.
+fn full() -> String {
+    let mut text = String::from("clock 14:00:00\nsession open\n");
+    for number in 1..=32 {
+        let satang = 50_00 + 25 * number;
+        let price = format!("{}.{:02}", satang / 100, satang % 100);
+        text += &format!("order 0 no {number} security 0 main buy limit {price} x 60000 online\n");
+        if number % 3 == 0 {
+            text += &format!("clock 14:00:{number:02}\ncancel 0 no {number}\n");
+        }
+    }
+    text
+}
+
+/// Each with its name.
+pub fn bases() -> Vec<(&'static str, Vec<u32>)> {
+    vec![
+        ("open session", after(OPEN)),
+        ("pre-open session", after(PRE_OPEN)),
+        ("full desk", after(&full())),
+        ("fresh state", after("")),
+    ]
+}
+
+/// The state that these lines leave; none of them may be turned back.
+fn after(text: &str) -> Vec<u32> {
+    let mut words = fresh(CUSTOMERS, SECURITIES);
+    for event in lines(text) {
+        let number = crate::both::number(gate::handle(&mut words, &event));
+        assert!(
+            number == 0 || (100..200).contains(&number),
+            "{}",
+            events::line(&event)
+        );
+    }
+    words
+}
+
+fn lines(text: &str) -> Vec<Vec<u8>> {
+    events::encode_each(text).unwrap_or_else(|wrong| panic!("{wrong}"))
+}
+
+/// Events of every kind for every record of a base, most of them good.
+pub fn events_for(words: &[u32]) -> Vec<Vec<u8>> {
+    let header = Header::read(words).expect("a base is whole");
+    let session = header.session as u8;
+    let clock = second::encode::clock;
+    let mut events = vec![
+        clock(header.clock),
+        clock((header.clock + 60_001).min(86_399_999)),
+        second::encode::session(session),
+        second::encode::session((session + 1) % 5),
+    ];
+    events.extend(lines(
+        "\
+setup 0 lot 100 free close 50.00
+setup 2 lot 50
+prices 0 main projected 50.00 last 50.00
+prices 1 foreign offer 10.00
+order 0 no 99 security 0 main sell limit 50.00 x 60000 online
+order 0 no 99 security 0 main buy limit 49.75 x 60400 online
+order 0 no 99 security 0 main buy mp x 100 online
+order 0 no 99 security 0 main sell ato x 100 online
+order 0 no 1 security 0 main buy limit 50.00 x 100 front
+order 0 no 99 security 1 foreign sell limit 10.00 x 100 dma
+order 1 no 99 security 1 main buy limit 14.00 x 100 online
+order 0 no 99 security 0 main buy limit 50.00 x 0 dma
+cancel 0 no 1
+cancel 0 no 2
+cancel 1 no 1
+match 0 no 1 x 100
+match 0 no 99 x 1
+match 1 no 1 x 20000001
+",
+    ));
+    events
+}

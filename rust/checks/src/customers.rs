@@ -1,0 +1,199 @@
+//! Demand 3: however the events of other customers, and of nobody, are changed,
+//! added, dropped or moved, one customer's answers and desk and the market's
+//! words stay, and they are those of the lone run.
+
+use guvontsira::library;
+use second::lone::{LoneRun, Owner, belongs};
+use second::state::DESK_WORDS;
+
+use crate::both::number;
+use crate::layout::{desk_start, fresh, meaning};
+use crate::mixture::MIXTURES;
+use crate::program::Program;
+use crate::random::Random;
+use crate::report::{first_wrong, lines};
+use crate::shrink::shrink;
+use crate::writer::Writer;
+
+/// What demand 3 compares.
+#[derive(Clone, Debug, PartialEq, Eq)]
+struct Seen {
+    answers: Vec<u32>,
+    market: Vec<u32>,
+    desk: Vec<u32>,
+}
+
+#[derive(Clone, Copy)]
+struct View {
+    customers: u32,
+    securities: u32,
+    customer: u32,
+}
+
+impl View {
+    fn is_own(&self, event: &[u8]) -> bool {
+        match belongs(event, self.customers) {
+            Owner::Market => true,
+            Owner::Customer(customer) => customer == self.customer,
+            Owner::Nobody => false,
+        }
+    }
+
+    /// What the customer sees of a whole history in the gate.
+    fn of_gate(&self, events: &[Vec<u8>]) -> Seen {
+        let mut words = fresh(self.customers, self.securities);
+        let mut answers = Vec::new();
+        for event in events {
+            let answer = library::handle(&mut words, event);
+            if self.is_own(event) {
+                answers.push(answer);
+            }
+        }
+        let securities = self.securities as usize;
+        let desk = desk_start(securities, self.customer as usize);
+        Seen {
+            answers,
+            market: words[..desk_start(securities, 0)].to_vec(),
+            desk: words[desk..][..DESK_WORDS].to_vec(),
+        }
+    }
+
+    /// What the lone run gives for the same history.
+    fn of_lone_run(&self, events: &[Vec<u8>]) -> Seen {
+        let mut run = LoneRun::new(self.customers, self.securities, self.customer);
+        let own = events.iter().filter(|event| self.is_own(event));
+        Seen {
+            answers: own.map(|event| number(run.handle(event))).collect(),
+            market: run.market_words(),
+            desk: run.desk_words(),
+        }
+    }
+}
+
+pub fn run(program: &mut Program) {
+    let mut random = program.random();
+    let mixture = &MIXTURES[random.place(MIXTURES.len())];
+    let (customers, securities) = match random.below(10) {
+        0 => (256, 1 + random.below(4)),
+        1 => (2, 1 + random.below(1_024)),
+        _ => (2 + random.below(5), 1 + random.below(3)),
+    };
+    let mut writer = Writer::new(Random::new(random.next()), mixture, customers, securities);
+    let length = 100 + random.place(500);
+    let history = writer.history(length);
+    // Others' events to add, by those who take part and by more.
+    let mut spare = Writer::new(Random::new(random.next()), mixture, customers, securities);
+    let mut added = spare.history(length / 2);
+    added.extend((0..length / 2).map(|_| writer.event()));
+
+    // Two who take part, and one who may not.
+    let taking_part = writer.customers().to_vec();
+    for customer in [
+        random.pick(&taking_part).into(),
+        random.pick(&taking_part).into(),
+        random.below(customers),
+    ] {
+        let view = View {
+            customers,
+            securities,
+            customer,
+        };
+        let original = view.of_gate(&history);
+        compare(program, view, &history, &original);
+        for _ in 0..4 {
+            let varied = vary(&mut random, &view, &history, &added);
+            compare(program, view, &varied, &original);
+        }
+    }
+}
+
+/// The same own events in the same order, and others of any sort between them.
+fn vary(random: &mut Random, view: &View, history: &[Vec<u8>], added: &[Vec<u8>]) -> Vec<Vec<u8>> {
+    let is_other = |event: &&Vec<u8>| !view.is_own(event);
+    let mut others: Vec<Vec<u8>> = history.iter().filter(is_other).cloned().collect();
+    match random.below(4) {
+        0 => others.clear(),
+        1 => others.retain(|_| random.once_in(2)),
+        _ => {}
+    }
+    if random.once_in(2) {
+        others.extend(added.iter().filter(is_other).cloned());
+    }
+    if random.once_in(2) {
+        for event in &mut others {
+            change(random, event);
+        }
+        others.retain(|event| !view.is_own(event));
+    }
+    if random.once_in(2) {
+        random.shuffle(&mut others);
+    }
+    let own: Vec<Vec<u8>> = history
+        .iter()
+        .filter(|event| view.is_own(event))
+        .cloned()
+        .collect();
+    merge(random, own, others)
+}
+
+/// Another byte now and then, and now and then another length.
+fn change(random: &mut Random, event: &mut Vec<u8>) {
+    if event.len() > 1 && random.once_in(3) {
+        let place = 1 + random.place(event.len() - 1);
+        event[place] = random.pick(&[0, 1, 2, 3, 5, 100, 255]);
+    }
+    if random.once_in(40) {
+        event.resize(random.place(30), 0);
+    }
+}
+
+/// Both lists in one, each in its order, with others in bursts.
+fn merge(random: &mut Random, own: Vec<Vec<u8>>, others: Vec<Vec<u8>>) -> Vec<Vec<u8>> {
+    let mut merged = Vec::with_capacity(own.len() + others.len());
+    let (mut own, mut others) = (own.into_iter(), others.into_iter());
+    while own.len() + others.len() > 0 {
+        let left = own.len() + others.len();
+        let burst = 1 + random.place(8);
+        if random.place(left) < own.len() {
+            merged.extend(own.by_ref().take(burst));
+        } else {
+            merged.extend(others.by_ref().take(burst));
+        }
+    }
+    merged
+}
+
+fn compare(program: &mut Program, view: View, events: &[Vec<u8>], original: &Seen) {
+    let gate = view.of_gate(events);
+    let lone = view.of_lone_run(events);
+    let name = format_args!(
+        "customer {} of {}, {} securities",
+        view.customer, view.customers, view.securities
+    );
+    program.holds(name, gate == lone && gate == *original, || {
+        let short = shrink(events, |events| {
+            view.of_gate(events) != view.of_lone_run(events)
+        });
+        let (gate, lone) = (view.of_gate(&short), view.of_lone_run(&short));
+        lines(short.iter().map(Vec::as_slice)) + &difference(&view, &gate, &lone)
+    });
+}
+
+/// The gate beside the lone run. Nothing is wrong there where only the original
+/// history was answered in another way.
+fn difference(view: &View, gate: &Seen, lone: &Seen) -> String {
+    let securities = view.securities as usize;
+    let desk = desk_start(securities, view.customer as usize);
+    [
+        first_wrong(&gate.answers, &lone.answers, |place| {
+            format!("the answer to own event {place}")
+        }),
+        first_wrong(&gate.market, &lone.market, |place| {
+            meaning(place, securities)
+        }),
+        first_wrong(&gate.desk, &lone.desk, |place| {
+            meaning(desk + place, securities)
+        }),
+    ]
+    .concat()
+}

@@ -1,0 +1,70 @@
+//! Random histories in which words are damaged between the events.
+
+use second::gate;
+use second::state::{ROW_WORDS, SECURITY_WORDS};
+
+use crate::bases::{bases, events_for};
+use crate::histories::sizes;
+use crate::layout::{fresh, row_start, security_start};
+use crate::mixture::MIXTURES;
+use crate::program::Program;
+use crate::random::Random;
+use crate::writer::Writer;
+
+/// Each history is damaged so many times.
+const DAMAGES: usize = 40;
+
+pub fn run(program: &mut Program) {
+    let mut random = program.random();
+    let mixture = &MIXTURES[random.place(MIXTURES.len())];
+    let (customers, securities, _) = sizes(&mut random);
+    let mut writer = Writer::new(Random::new(random.next()), mixture, customers, securities);
+    let taking_part = writer.customers().to_vec();
+    let mut words = fresh(customers, securities);
+    for event in writer.history(120) {
+        gate::handle(&mut words, &event);
+    }
+    for damage in 0..DAMAGES {
+        let mut damaged = words.clone();
+        for _ in 0..1 + random.below(3) {
+            let customer = random.pick(&taking_part).into();
+            damage_word(&mut random, &mut damaged, securities as usize, customer);
+        }
+        let events: Vec<Vec<u8>> = (0..10).map(|_| writer.event()).collect();
+        program.case(
+            format_args!("{}, damage {damage}, events in turn", mixture.name),
+            &damaged,
+            &events,
+        );
+        // The events went on from sound words, and so do the next ones.
+        for event in &events {
+            gate::handle(&mut words, event);
+        }
+    }
+    for (name, mut words) in bases() {
+        let events = events_for(&words);
+        for word in &mut words[4..] {
+            if random.once_in(100) {
+                *word = random.word() >> random.below(32);
+            }
+        }
+        program.each(format_args!("{name}, many words damaged"), &words, &events);
+    }
+}
+
+/// One word anywhere, mostly in the first rows of this customer, mostly by
+/// little.
+fn damage_word(random: &mut Random, words: &mut [u32], securities: usize, customer: usize) {
+    let place = match random.below(8) {
+        0 => random.place(words.len()),
+        1 | 2 => security_start(random.place(securities)) + random.place(SECURITY_WORDS),
+        _ => row_start(securities, customer, random.place(12)) + random.place(ROW_WORDS),
+    };
+    words[place] = match random.below(5) {
+        0 => random.word(),
+        1 => words[place].wrapping_add(1),
+        2 => words[place].wrapping_sub(1),
+        3 => words[random.place(words.len())],
+        _ => random.below(4),
+    };
+}

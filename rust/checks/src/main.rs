@@ -1,0 +1,137 @@
+//! Holds the linked order gate against the second implementation: answers and
+//! every word.
+
+mod arguments;
+mod bases;
+mod both;
+mod counters;
+mod customers;
+mod damage;
+mod damaged_histories;
+mod histories;
+mod ladder;
+mod layout;
+mod lengths;
+mod make;
+mod malformed;
+mod mixture;
+mod own_orders;
+mod prices;
+mod program;
+mod random;
+mod references;
+mod repeats;
+mod report;
+mod runs;
+mod script;
+mod shrink;
+mod tally;
+mod volumes;
+mod writer;
+
+use std::env;
+use std::process::ExitCode;
+
+use arguments::{Arguments, USAGE, Until};
+use program::Program;
+
+type Group = (&'static str, fn(&mut Program));
+
+/// Cases that are the same in every run of one seed.
+const FIXED: [Group; 12] = [
+    ("edges", |program| {
+        script::run(program, "edges.txt", include_str!("../cases/edges.txt"))
+    }),
+    ("refusals", |program| {
+        script::run(
+            program,
+            "refusals.txt",
+            include_str!("../cases/refusals.txt"),
+        )
+    }),
+    ("samples", |program| {
+        script::run(program, "day.txt", include_str!("../../../samples/day.txt"));
+        script::run(
+            program,
+            "paper.txt",
+            include_str!("../../../samples/paper.txt"),
+        );
+    }),
+    ("make", make::run),
+    ("counters", counters::run),
+    ("volumes", volumes::run),
+    ("own-orders", own_orders::run),
+    ("repeats", repeats::run),
+    ("references", references::run),
+    ("lengths", lengths::fixed),
+    ("damage", damage::run),
+    ("ladder", ladder::run),
+];
+
+/// Cases that each round draws anew.
+const RANDOM: [Group; 5] = [
+    ("histories", histories::run),
+    ("customers", customers::run),
+    ("runs", runs::run),
+    ("damaged-histories", damaged_histories::run),
+    ("random-bytes", lengths::random),
+];
+
+/// From so many rounds on, every answer must have come in the histories.
+const ENOUGH_ROUNDS: u64 = 20;
+
+fn main() -> ExitCode {
+    let arguments = match Arguments::parse(env::args().skip(1)) {
+        Ok(arguments) => arguments,
+        Err(message) => {
+            eprintln!("{message}\n{USAGE}");
+            return ExitCode::FAILURE;
+        }
+    };
+    let names: Vec<&str> = FIXED.iter().chain(&RANDOM).map(|group| group.0).collect();
+    if let Some(only) = arguments.only.as_deref()
+        && !names.contains(&only)
+    {
+        eprintln!("no cases named {only:?}; there are {}", names.join(", "));
+        return ExitCode::FAILURE;
+    }
+    let mut program = Program::new(arguments.seed);
+    let rounds = run(&mut program, &arguments);
+    program.finish(arguments.only.is_none(), rounds >= ENOUGH_ROUNDS);
+    println!("{} passed, {} failed", program.passed, program.failed);
+    if program.failed == 0 {
+        ExitCode::SUCCESS
+    } else {
+        ExitCode::FAILURE
+    }
+}
+
+/// Runs the groups asked for and says how many rounds that were.
+fn run(program: &mut Program, arguments: &Arguments) -> u64 {
+    let is_asked = |group: &&Group| {
+        let only = arguments.only.as_deref();
+        only.is_none_or(|name| name == group.0)
+    };
+    for (name, cases) in FIXED.iter().filter(is_asked) {
+        program.enter(name, None);
+        cases(program);
+    }
+    let mut random: Vec<&Group> = RANDOM.iter().filter(is_asked).collect();
+    let mut rounds = 0;
+    while !random.is_empty() {
+        for (name, cases) in &random {
+            program.enter(name, Some(arguments.first_round + rounds));
+            cases(program);
+        }
+        rounds += 1;
+        random.retain(|group| !program.is_given_up(group.0));
+        let is_done = match arguments.until {
+            Until::Elapsed(duration) => program.elapsed() >= duration,
+            Until::Rounds(count) => rounds >= count,
+        };
+        if is_done {
+            break;
+        }
+    }
+    rounds
+}

@@ -1,0 +1,228 @@
+//! Runs cases, counts them and tells about those that fail.
+
+use std::collections::HashMap;
+use std::fmt;
+use std::time::{Duration, Instant};
+
+use crate::both::{Both, Difference};
+use crate::random::Random;
+use crate::report;
+use crate::shrink::shrink;
+use crate::tally::{self, Tally};
+
+/// After so many failures the rest of a group is not tried: one fault fails
+/// many cases.
+const MOST_FAILURES: u32 = 3;
+
+const PROGRESS: Duration = Duration::from_secs(5);
+
+/// Where a list of events fails, and how.
+type Failure = (usize, Difference);
+
+pub struct Program {
+    seed: u64,
+    group: &'static str,
+    round: Option<u64>,
+    both: Both,
+    pub passed: u64,
+    pub failed: u64,
+    failed_in: HashMap<&'static str, u32>,
+    events: u64,
+    all: Tally,
+    histories: Tally,
+    counts_history: bool,
+    started: Instant,
+    told: Instant,
+}
+
+impl Program {
+    pub fn new(seed: u64) -> Self {
+        Program {
+            seed,
+            group: "",
+            round: None,
+            both: Both::default(),
+            passed: 0,
+            failed: 0,
+            failed_in: HashMap::new(),
+            events: 0,
+            all: Tally::new(),
+            histories: Tally::new(),
+            counts_history: false,
+            started: Instant::now(),
+            told: Instant::now(),
+        }
+    }
+
+    pub fn enter(&mut self, group: &'static str, round: Option<u64>) {
+        self.group = group;
+        self.round = round;
+        self.counts_history = group == "histories";
+        if round.is_none() {
+            // Should the gate never come back, the last line says from where.
+            eprintln!("{} s: {group}", self.elapsed().as_secs());
+        }
+    }
+
+    pub fn elapsed(&self) -> Duration {
+        self.started.elapsed()
+    }
+
+    pub fn is_given_up(&self, group: &str) -> bool {
+        self.failed_in.get(group).copied().unwrap_or(0) >= MOST_FAILURES
+    }
+
+    /// The generator of this group and round.
+    pub fn random(&self) -> Random {
+        Random::of_round(self.seed, self.group, self.round.unwrap_or(0))
+    }
+
+    /// Events in turn from these words, both implementations beside each other.
+    pub fn case(&mut self, name: fmt::Arguments, start: &[u32], events: &[Vec<u8>]) {
+        self.case_expecting(name, start, events, &[]);
+    }
+
+    /// The same, where the case also says the answers to its events; `None`
+    /// leaves one open.
+    pub fn case_expecting(
+        &mut self,
+        name: fmt::Arguments,
+        start: &[u32],
+        events: &[Vec<u8>],
+        expected: &[Option<u32>],
+    ) {
+        if self.is_given_up(self.group) {
+            return;
+        }
+        let Some((place, difference)) = self.in_turn(start, events, expected, true) else {
+            self.pass();
+            return;
+        };
+        let events = &events[..=place];
+        let (events, difference) = match difference {
+            // What a case says of its answers holds for its own list only.
+            Difference::Unexpected { .. } => (events.to_vec(), difference),
+            _ => {
+                let short = shrink(events, |events| {
+                    self.in_turn(start, events, &[], false).is_some()
+                });
+                let found = self.in_turn(start, &short, &[], false);
+                (
+                    short,
+                    found.map_or(difference, |(_, difference)| difference),
+                )
+            }
+        };
+        self.fail(name, &report::describe(start, &events, &difference));
+    }
+
+    /// Each event by itself from these words.
+    pub fn each(&mut self, name: fmt::Arguments, start: &[u32], events: &[Vec<u8>]) {
+        if self.is_given_up(self.group) {
+            return;
+        }
+        for event in events {
+            let event = std::slice::from_ref(event);
+            if let Some((_, difference)) = self.in_turn(start, event, &[], true) {
+                self.fail(name, &report::describe(start, event, &difference));
+                return;
+            }
+        }
+        self.pass();
+    }
+
+    /// Anything else that must hold.
+    pub fn holds(
+        &mut self,
+        name: fmt::Arguments,
+        condition: bool,
+        detail: impl FnOnce() -> String,
+    ) {
+        if self.is_given_up(self.group) {
+            return;
+        }
+        if condition {
+            self.pass();
+        } else {
+            self.fail(name, &detail());
+        }
+    }
+
+    fn in_turn(
+        &mut self,
+        start: &[u32],
+        events: &[Vec<u8>],
+        expected: &[Option<u32>],
+        counts: bool,
+    ) -> Option<Failure> {
+        self.both.start(start);
+        for (place, event) in events.iter().enumerate() {
+            let answer = match self.both.send(event) {
+                Ok(answer) => answer,
+                Err(difference) => return Some((place, difference)),
+            };
+            if counts {
+                self.count(event, answer);
+            }
+            if let Some(&Some(expected)) = expected.get(place)
+                && expected != answer
+            {
+                return Some((place, Difference::Unexpected { answer, expected }));
+            }
+        }
+        None
+    }
+
+    fn count(&mut self, event: &[u8], answer: u32) {
+        self.events += 1;
+        self.all.add(event, answer);
+        if self.counts_history {
+            self.histories.add(event, answer);
+        }
+    }
+
+    fn pass(&mut self) {
+        self.passed += 1;
+        if self.told.elapsed() >= PROGRESS {
+            self.told = Instant::now();
+            let seconds = self.elapsed().as_secs();
+            let round = self
+                .round
+                .map_or(String::new(), |round| format!(" round {round},"));
+            eprintln!(
+                "{seconds} s: {},{round} {} cases, {} events",
+                self.group, self.passed, self.events
+            );
+        }
+    }
+
+    fn fail(&mut self, name: fmt::Arguments, detail: &str) {
+        self.failed += 1;
+        *self.failed_in.entry(self.group).or_default() += 1;
+        let (group, seed) = (self.group, self.seed);
+        let round = self
+            .round
+            .map_or(String::new(), |round| format!(" --from {round}"));
+        eprintln!("FAILED {group}: {name}");
+        eprintln!("to repeat: checks --seed {seed} --case {group}{round} --rounds 1\n{detail}\n");
+    }
+
+    /// Says how often each answer came. Where all groups ran, it is a failure if
+    /// an answer never came that should have, or came that should not.
+    pub fn finish(&mut self, is_whole: bool, enough_histories: bool) {
+        print!("{}", tally::table(&self.all, &self.histories));
+        if !is_whole || self.failed > 0 {
+            return;
+        }
+        let mut gaps = self.all.gaps();
+        if enough_histories {
+            gaps.extend(self.histories.gaps_from_fresh());
+        }
+        if gaps.is_empty() {
+            self.passed += 1;
+        } else {
+            self.failed += 1;
+            eprintln!("FAILED answers (seed {}):\n{}", self.seed, gaps.join("\n"));
+        }
+    }
+}

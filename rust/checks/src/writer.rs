@@ -1,0 +1,301 @@
+//! Writes random events that fit the state which they will meet. That state is
+//! kept by the second implementation.
+
+use second::codes::{Board, OrderType, Session};
+use second::event::{Order, Prices, Setup};
+use second::state::{CANCEL_MEMORY, Desk, Header, LAST_TIME, Mark, Row, Security};
+use second::{encode, gate};
+
+use crate::layout::fresh;
+use crate::malformed::malformed;
+use crate::mixture::{Kind, Mixture};
+use crate::prices::{limit_price, market_price, middle, order_type, repeated_volume, step, volume};
+use crate::random::Random;
+
+pub struct Writer {
+    random: Random,
+    mixture: &'static Mixture,
+    words: Vec<u32>,
+    /// Few take part even in a large state, so that they meet often.
+    customers: Vec<u16>,
+    /// With the position around which each trades.
+    securities: Vec<(u16, u32)>,
+}
+
+impl Writer {
+    pub fn new(
+        mut random: Random,
+        mixture: &'static Mixture,
+        customers: u32,
+        securities: u32,
+    ) -> Self {
+        let some = |random: &mut Random, count: u32, most: u32| -> Vec<u16> {
+            let taking_part = 1 + random.below(most);
+            (0..taking_part)
+                .map(|_| random.below(count) as u16)
+                .chain([count as u16 - 1])
+                .collect()
+        };
+        let customer_list = some(&mut random, customers, 4);
+        let security_list = some(&mut random, securities, 2);
+        Writer {
+            customers: customer_list,
+            securities: security_list
+                .into_iter()
+                .map(|security| (security, middle(&mut random)))
+                .collect(),
+            words: fresh(customers, securities),
+            mixture,
+            random,
+        }
+    }
+
+    /// Those who take part.
+    pub fn customers(&self) -> &[u16] {
+        &self.customers
+    }
+
+    /// So many events. The first opens a session: in a closed one all orders
+    /// get S.
+    pub fn history(&mut self, length: usize) -> Vec<Vec<u8>> {
+        let mut events = vec![self.keep(encode::session(self.mixture.sessions[0] as u8))];
+        for _ in 0..length {
+            events.push(self.event());
+        }
+        events
+    }
+
+    pub fn event(&mut self) -> Vec<u8> {
+        let event = self.written();
+        self.keep(event)
+    }
+
+    fn keep(&mut self, event: Vec<u8>) -> Vec<u8> {
+        gate::handle(&mut self.words, &event);
+        event
+    }
+
+    fn written(&mut self) -> Vec<u8> {
+        match self.next_kind() {
+            Kind::Clock => self.clock(),
+            Kind::Session => encode::session(self.random.pick(self.mixture.sessions) as u8),
+            Kind::Setup => self.setup(),
+            Kind::Prices => self.prices(),
+            Kind::Order => self.order(),
+            Kind::Repeat => self.repeat(),
+            Kind::Cancel => self.cancel(),
+            Kind::Match => self.match_report(),
+            Kind::Malformed => {
+                let event = self.written();
+                malformed(&mut self.random, &self.words, event)
+            }
+        }
+    }
+
+    fn next_kind(&mut self) -> Kind {
+        let total = self.mixture.kinds.iter().map(|(_, weight)| weight).sum();
+        let mut place = self.random.below(total);
+        for &(kind, weight) in self.mixture.kinds {
+            if place < weight {
+                return kind;
+            }
+            place -= weight;
+        }
+        unreachable!("the place is below the sum of the weights")
+    }
+
+    fn header(&self) -> Header {
+        Header::read(&self.words).expect("a history keeps its header whole")
+    }
+
+    fn security(&self, security: u16) -> Security {
+        let place = self.header().security_place(security.into());
+        let place = place.expect("those that take part are in the state");
+        Security::read(&self.words[place]).expect("a history keeps its records sound")
+    }
+
+    fn desk(&self, customer: u16) -> Desk {
+        let header = self.header();
+        let place = header.desk_place(customer.into());
+        let place = place.expect("those that take part are in the state");
+        Desk::read(&self.words[place], header.securities, header.clock)
+            .expect("a history keeps its records sound")
+    }
+
+    /// A customer, one with such a row if there is any, and that row.
+    fn customer_with(&mut self, wanted: impl Fn(&Row) -> bool) -> (u16, Option<Row>) {
+        let mut customer = self.random.pick(&self.customers);
+        for _ in 0..4 {
+            let desk = self.desk(customer);
+            let rows: Vec<Row> = desk
+                .rows()
+                .iter()
+                .copied()
+                .filter(|row| wanted(row))
+                .collect();
+            if !rows.is_empty() {
+                return (customer, Some(self.random.pick(&rows)));
+            }
+            customer = self.random.pick(&self.customers);
+        }
+        (customer, None)
+    }
+
+    fn clock(&mut self) -> Vec<u8> {
+        let clock = self.header().clock;
+        let random = &mut self.random;
+        let later = match random.below(12) {
+            0 => 0,
+            1..=4 => random.below(3_000),
+            5 => CANCEL_MEMORY - 1 + random.below(3),
+            6 => random.below(CANCEL_MEMORY),
+            7 if random.once_in(20) => random.below(LAST_TIME),
+            8 if random.once_in(20) => LAST_TIME - clock + random.below(2),
+            9 => return encode::clock(clock.saturating_sub(random.below(5))),
+            _ => return self.clock_at_the_minute(clock),
+        };
+        encode::clock((clock + later).min(LAST_TIME + 1))
+    }
+
+    /// When a cancel is a minute old, or one millisecond more.
+    fn clock_at_the_minute(&mut self, clock: u32) -> Vec<u8> {
+        let (_, row) = self.customer_with(|row| !row.is_open());
+        let minute = match row.map(|row| row.mark) {
+            Some(Mark::Cancelled { at }) => at + CANCEL_MEMORY + self.random.below(2),
+            _ => 0,
+        };
+        encode::clock(minute.clamp(clock, LAST_TIME))
+    }
+
+    fn setup(&mut self) -> Vec<u8> {
+        let (security, middle) = self.random.pick(&self.securities);
+        let random = &mut self.random;
+        let ipo = match random.below(3) {
+            0 => 0,
+            1 => step(middle, random.below(9) as i32 - 4),
+            _ => (step(middle, 0) + random.below(300)).min(10_000_000),
+        };
+        encode::setup(&Setup {
+            security,
+            lot: random.pick(&[100, 100, 100, 50, 1]),
+            free: u8::from(!random.once_in(3)),
+            first_day: random.below(2) as u8,
+            prior_close: market_price(random, middle),
+            ipo,
+        })
+    }
+
+    fn prices(&mut self) -> Vec<u8> {
+        let place = self.random.place(self.securities.len());
+        let random = &mut self.random;
+        if random.once_in(40) {
+            self.securities[place].1 = middle(random);
+        }
+        let (security, middle) = self.securities[place];
+        encode::prices(&Prices {
+            security,
+            board: random.pick(&[0, 0, 1]),
+            projected: market_price(random, middle),
+            last: market_price(random, middle),
+            bid: market_price(random, middle),
+            offer: market_price(random, middle),
+        })
+    }
+
+    fn order(&mut self) -> Vec<u8> {
+        let customer = self.random.pick(&self.customers);
+        let (security, middle) = self.random.pick(&self.securities);
+        let board = self
+            .random
+            .pick(&[Board::Main, Board::Main, Board::Foreign]);
+        let fitting = match self.header().session {
+            Session::PreOpen => OrderType::Ato,
+            Session::PreClose => OrderType::Atc,
+            _ => OrderType::Mp,
+        };
+        let order_type = order_type(&mut self.random, fitting);
+        let record = self.security(security);
+        let desk = self.desk(customer);
+        let number = self.number(&desk);
+        let random = &mut self.random;
+        let price = match order_type {
+            OrderType::Limit => limit_price(random, &record, board, desk.rows(), middle),
+            _ => 0,
+        };
+        encode::order(&Order {
+            customer,
+            number,
+            security,
+            board: board as u8,
+            side: random.below(2) as u8,
+            order_type: order_type as u8,
+            channel: random.pick(self.mixture.channels),
+            price,
+            volume: volume(random, record.lot, price, desk.rows()),
+        })
+    }
+
+    fn repeat(&mut self) -> Vec<u8> {
+        let (customer, row) = self.customer_with(|row| !row.is_open());
+        let Some(row) = row else {
+            return self.order();
+        };
+        let lot = self.security(row.security as u16).lot;
+        let desk = self.desk(customer);
+        let number = match self.random.below(4) {
+            0 => row.number,
+            _ => self.number(&desk),
+        };
+        let random = &mut self.random;
+        encode::order(&Order {
+            customer,
+            number,
+            security: row.security as u16,
+            board: row.board as u8,
+            side: row.side as u8,
+            order_type: row.order_type as u8,
+            channel: random.pick(self.mixture.channels),
+            price: row.price,
+            volume: repeated_volume(random, lot, &row),
+        })
+    }
+
+    /// Mostly one that the desk does not have. The numbers are small, so that
+    /// customers use the same ones.
+    fn number(&mut self, desk: &Desk) -> u32 {
+        if self.random.once_in(20) && !desk.rows().is_empty() {
+            return self.random.pick(desk.rows()).number;
+        }
+        let is_used = |number| desk.rows().iter().any(|row| row.number == number);
+        let mut number = 1 + self.random.below(60);
+        while is_used(number) {
+            number += 1;
+        }
+        match self.random.below(200) {
+            0 => u32::MAX,
+            _ => number,
+        }
+    }
+
+    fn cancel(&mut self) -> Vec<u8> {
+        let any = self.random.once_in(12);
+        let (customer, row) = self.customer_with(|row| any || row.is_open());
+        let number = row.map_or(1 + self.random.below(60), |row| row.number);
+        encode::cancel(customer, number)
+    }
+
+    fn match_report(&mut self) -> Vec<u8> {
+        let any = self.random.once_in(12);
+        let (customer, row) = self.customer_with(|row| any || row.is_open());
+        let random = &mut self.random;
+        let (number, open) =
+            row.map_or((1 + random.below(60), 100), |row| (row.number, row.volume));
+        let volume = match random.below(10) {
+            0..=3 => open,
+            4..=7 => 1 + random.below(open),
+            8 => open.saturating_add(1),
+            _ => random.pick(&[0, 1, u32::MAX]),
+        };
+        encode::match_report(customer, number, volume)
+    }
+}

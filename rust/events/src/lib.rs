@@ -1,0 +1,47 @@
+//! Events of the order gate as text, one line an event.
+//!
+//! ```text
+//! # What follows a number sign is a comment.
+//! clock 09:55:00.000
+//! session open
+//! setup 0 lot 100 free first-day close 65.50 ipo 12.00
+//! prices 0 main projected - last 50.00 bid 49.75 offer 50.25
+//! order 0 no 1 security 0 main buy limit 50.00 x 100 online
+//! order 0 no 5 security 0 foreign sell atc x 100 dma
+//! cancel 0 no 1
+//! match 0 no 5 x 100
+//! ```
+//!
+//! - `clock`: hours, minutes and seconds; the milliseconds may be left out.
+//! - `session`: `closed`, `pre-open`, `open`, `break` or `pre-close`.
+//! - `setup`, with the security: `lot`; then in any order `free`, `first-day`,
+//!   `close` and `ipo`. A flag left out is 0, a price left out is absent.
+//! - `prices`, with the security: the board, `main` or `foreign`; then in any
+//!   order `projected`, `last`, `bid` and `offer`. One left out is absent,
+//!   since the event replaces all four.
+//! - `order`, with the customer: `no` and the order number; `security`; the
+//!   board; `buy` or `sell`; `limit` and a price, or `ato`, `atc` or `mp`;
+//!   `x` and the volume; the channel, `front`, `online` or `dma`.
+//! - `cancel` and `match`, with the customer: `no` and the order number; for a
+//!   match `x` and the volume.
+//!
+//! Prices are in baht with two decimals, and `-` is an absent one.
+//!
+//! What the gate would turn back can be written too. A code outside its list
+//! is a number: `session 7`, `free 2`, `first-day 2`, `board 9`, `side 2`,
+//! `type 4`, `channel 3`. A price may follow every type of order, and a limit
+//! may have the price `-`. So every event of a known kind and a whole length
+//! has a line, and the line gives its bytes back. Last, `bytes 09 ff` stands
+//! for those bytes as they are, an unknown kind or a part of an event.
+
+#![forbid(unsafe_code)]
+
+mod convert;
+mod format;
+mod parse;
+mod values;
+mod words;
+
+pub use convert::{Broken, Lines, Wrong, decode, encode, encode_each, line};
+pub use parse::parse;
+pub use second::event::{Event, Order, Prices, Setup};

@@ -1,0 +1,53 @@
+//! The order gate for brokers on the Stock Exchange of Thailand, called from
+//! Rust. The gate itself is a proved static library; this crate only makes its
+//! calls safe and gives its numbers types.
+//!
+//! ```
+//! use guvontsira::{Answer, State};
+//!
+//! let mut state = State::new(8, 16)?;
+//! // Kind 2: the open session.
+//! assert_eq!(state.handle(&[2, 2]), Answer::Ok);
+//! // Kind 6: customer 0 cancels order 1, which was never entered.
+//! let cancel = state.handle(&[6, 0, 0, 1, 0, 0, 0]);
+//! assert_eq!(cancel.to_string(), "refused 10");
+//! # Ok::<(), guvontsira::Refused>(())
+//! ```
+//!
+//! The archive `libguvontsira.a` is looked for in the folder that the
+//! environment variable `GUVONTSIRA_LIB` names, else in `target/staticlib` of
+//! the project, where `rt staticlib guvontsira` puts it.
+
+#![deny(unsafe_code)]
+#![warn(missing_debug_implementations)]
+
+mod answer;
+mod desk;
+#[allow(unsafe_code)]
+pub mod library;
+mod state;
+
+pub use answer::{Answer, Refused, Rule};
+pub use desk::{Board, Desk, Mark, OrderType, Row, Side};
+pub use state::State;
+
+/// The ladder position of a price in satang; `None` if it is off the ladder.
+///
+/// ```
+/// assert_eq!(guvontsira::position(400_00), Some(1300));
+/// assert_eq!(guvontsira::position(400_01), None);
+/// ```
+pub fn position(price: u32) -> Option<u32> {
+    Some(library::position(price)).filter(|&position| position != 0)
+}
+
+/// The price in satang at a ladder position; `None` if there is no such
+/// position.
+///
+/// ```
+/// assert_eq!(guvontsira::price(1300), Some(400_00));
+/// assert_eq!(guvontsira::price(0), None);
+/// ```
+pub fn price(position: u32) -> Option<u32> {
+    Some(library::price(position)).filter(|&price| price != 0)
+}

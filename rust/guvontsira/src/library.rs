@@ -1,0 +1,74 @@
+//! The library's five functions over slices, with its bare numbers. All unsafe
+//! code of the crate is here.
+//!
+//! Every function is total: any words and any bytes may be handed in, and a
+//! refusal changes no word. What a C caller owes beside that, the types of a
+//! slice already say: it is valid for its length, and while it is borrowed
+//! here nobody else writes it and no other slice overlaps it.
+
+// Nothing checks these lines against the library's source; include/guvontsira.h
+// says the same in C.
+unsafe extern "C" {
+    fn guvontsira_make(words: *mut u32, word_count: usize, customers: u32, securities: u32) -> u32;
+
+    fn guvontsira_handle(
+        words: *mut u32,
+        word_count: usize,
+        event: *const u8,
+        event_length: usize,
+    ) -> u32;
+
+    fn guvontsira_run(
+        words: *mut u32,
+        word_count: usize,
+        events: *const u8,
+        events_length: usize,
+        answers: *mut u32,
+        answers_length: usize,
+    ) -> usize;
+
+    safe fn guvontsira_position(price: u32) -> u32;
+
+    safe fn guvontsira_price(position: u32) -> u32;
+}
+
+/// Makes a fresh state in the lent words. The answer is ok or refused 1.
+pub fn make(words: &mut [u32], customers: u32, securities: u32) -> u32 {
+    // SAFETY: pointer and length are those of one slice borrowed for writing.
+    unsafe { guvontsira_make(words.as_mut_ptr(), words.len(), customers, securities) }
+}
+
+/// Handles one event.
+pub fn handle(words: &mut [u32], event: &[u8]) -> u32 {
+    // SAFETY: pointers and lengths are those of two borrowed slices; the one
+    // that is written overlaps nothing.
+    unsafe { guvontsira_handle(words.as_mut_ptr(), words.len(), event.as_ptr(), event.len()) }
+}
+
+/// Handles events that stand one after another, as many as there are places
+/// for answers, and gives back how many those were. Later places keep what
+/// they hold.
+pub fn run(words: &mut [u32], events: &[u8], answers: &mut [u32]) -> usize {
+    // SAFETY: pointers and lengths are those of three borrowed slices; the two
+    // that are written overlap nothing.
+    unsafe {
+        guvontsira_run(
+            words.as_mut_ptr(),
+            words.len(),
+            events.as_ptr(),
+            events.len(),
+            answers.as_mut_ptr(),
+            answers.len(),
+        )
+    }
+}
+
+/// The ladder position of a price in satang; 0 if it is off the ladder.
+pub fn position(price: u32) -> u32 {
+    guvontsira_position(price)
+}
+
+/// The price in satang at a ladder position; 0 if there is no such position.
+pub fn price(position: u32) -> u32 {
+    guvontsira_price(position)
+}

@@ -1,0 +1,104 @@
+//! A state that owns its words.
+
+use std::fmt;
+
+use crate::answer::{Answer, Refused, known};
+use crate::desk::{Desk, word_count};
+use crate::library;
+
+/// The state of one trading day.
+///
+/// ```
+/// use guvontsira::{Answer, Rule, State};
+///
+/// let mut state = State::new(8, 16)?;
+/// let buy = events::encode("order 0 no 1 security 0 main buy limit 50.00 x 100 online")?;
+/// assert_eq!(state.handle(&buy), Answer::Reject(Rule::S));
+///
+/// let open = events::encode("session open")?;
+/// assert_eq!(state.handle(&open), Answer::Ok);
+/// assert_eq!(state.handle(&buy), Answer::Accept);
+///
+/// let desk = state.desk(0).expect("there are customers 0 to 7");
+/// assert_eq!((desk.accepted, desk.rejected), (1, 1));
+/// assert_eq!(desk.rows[0].price, 50_00);
+/// # Ok::<(), Box<dyn std::error::Error>>(())
+/// ```
+#[derive(Clone, PartialEq, Eq)]
+pub struct State {
+    words: Vec<u32>,
+}
+
+impl State {
+    /// A fresh state of 1 to 256 customers and 1 to 1,024 securities; other
+    /// counts are refused.
+    pub fn new(customers: u32, securities: u32) -> Result<State, Refused> {
+        // For counts out of range nothing is set aside: the library refuses
+        // them whatever the words.
+        let mut words = vec![0; word_count(customers, securities).unwrap_or(0)];
+        match known(library::make(&mut words, customers, securities)) {
+            Answer::Refused(number) => Err(Refused { number }),
+            _ => Ok(State { words }),
+        }
+    }
+
+    /// A state of words that were kept before. Any words will do: with words
+    /// that are no state's, every event is refused.
+    pub fn from_words(words: Vec<u32>) -> State {
+        State { words }
+    }
+
+    /// All words, to be kept and handed to [`State::from_words`] later.
+    pub fn words(&self) -> &[u32] {
+        &self.words
+    }
+
+    /// Hands one event to the gate, whatever its bytes. A refusal changes
+    /// nothing.
+    ///
+    /// # Panics
+    /// If the linked archive is of another release and gives an answer that
+    /// this crate does not know.
+    pub fn handle(&mut self, event: &[u8]) -> Answer {
+        known(library::handle(&mut self.words, event))
+    }
+
+    /// Hands in events that stand one after another and gives an answer for
+    /// each. An unknown kind, and an event cut short, takes all bytes that are
+    /// left.
+    ///
+    /// ```
+    /// use guvontsira::{Answer, State};
+    ///
+    /// let mut state = State::new(1, 1)?;
+    /// let events = events::encode("session open\ncancel 0 no 1")?;
+    /// assert_eq!(state.run(&events), [Answer::Ok, Answer::Refused(10)]);
+    /// # Ok::<(), Box<dyn std::error::Error>>(())
+    /// ```
+    ///
+    /// # Panics
+    /// As [`State::handle`].
+    pub fn run(&mut self, events: &[u8]) -> Vec<Answer> {
+        // Every event but the last takes two bytes or more.
+        let mut numbers = vec![0; events.len().div_ceil(2)];
+        let handled = library::run(&mut self.words, events, &mut numbers);
+        numbers[..handled].iter().copied().map(known).collect()
+    }
+
+    /// One customer's counters and marked rows. `None` if there is no such
+    /// customer, or if the words are damaged: of a wrong count, or with a code
+    /// outside its list.
+    pub fn desk(&self, customer: u32) -> Option<Desk> {
+        Desk::read(&self.words, customer)
+    }
+}
+
+impl fmt::Debug for State {
+    fn fmt(&self, f: &mut fmt::Formatter<'_>) -> fmt::Result {
+        // The words themselves are up to 87,812 numbers.
+        let count = self.words.len();
+        f.debug_struct("State")
+            .field("word_count", &count)
+            .finish_non_exhaustive()
+    }
+}
