@@ -1,7 +1,7 @@
 -- Laws of a desk's rows: free and marked rows, and the keys by which rows are compared with each other.
 -- Assumes nothing.
-use mathlib.Core.Bool.{Bool, true, false, cond, _&&_, _||_, not, and-assoc, or-assoc, or-false, and-true}
-use mathlib.Core.List.{List, [], _∷_, map, map-append}
+use mathlib.Core.Bool.{Bool, true, false, cond, _&&_, _||_, not, and-assoc, or-assoc, or-false, and-true, and-false}
+use mathlib.Core.List.{List, [], _∷_, _++_, map, map-append}
 use mathlib.Core.Path.{_≡_, refl, ap, sym, _∙_}
 use Prim.Native.Nat.{ℕ, _+_, _≤_, _<_}
 use native.Mathlib.Omega.{arith}
@@ -9,12 +9,12 @@ use native.Mathlib.Numerals.{add-one}
 use lib.Dec.{eqb, eqb·suc-suc}
 use lib.ListN.{length, getD, take, drop, set, drop-of-length-le, length-set}
 use lib.Seq.{take-suc-set, take-all}
-use borrow.Author.Tests.{ne-eqb}
+use borrow.Author.Tests.{ne-eqb, eq-eqb, eqb-true, eqb-false}
 use Rattle.definitions.specs.declared.Row.{Row}
 use Rattle.definitions.specs.declared.Desk.{Desk}
 use Rattle.definitions.specs.Lists.{any, all}
 use Rattle.definitions.specs.Sound.{marked, numbered, allZero, soundMarked, soundRow, markedFirst, numbersDiffer, soundDesk}
-use Rattle.definitions.proofs.Lists.{drop-next, take-next, any-next, any-end, tested-next, tested-end}
+use Rattle.definitions.proofs.Lists.{drop-next, take-next, tested-next, tested-end}
 use Rattle.records.specs.Keys.{keyOf, taken, equals, keysFirst, keysDiffer}
 
 pub free-sound : (securities clock : ℕ) (r : Row) → r .mark ≡ 0 → soundRow securities clock r ≡ allZero r
@@ -56,46 +56,57 @@ firsts-end {keys} {ok} {gap} {i} h inv =
     let past : length keys ≤ i = omega (arith, inv .long) in
     sym (and-true ok) ∙ rw (drop-of-length-le keys past) at (inv .so-far)
 
--- a loop that looks for a key from a place on
-pub record Later (keys : List ℕ) (from k : ℕ) (found : Bool) (i : ℕ) : Type 0 where
-  pub so-far : (found || any (equals k) (drop i keys)) ≡ any (equals k) (drop from keys)
-  pub to : i ≤ 32
-  pub long : length keys ≡ 32
+-- a key put after others differs from them if none of them equals it
+any-last : (p : ℕ → Bool) (xs : List ℕ) (k : ℕ) → any p (xs ++ (k ∷ [])) ≡ (any p xs || p k)
+unfolding any
+any-last p [] k = or-false (p k)
+any-last p (x ∷ xs) k = rw (any-last p xs k) (sym (or-assoc (p x) (any p xs) (p k)))
 
-pub later-next : {keys : List ℕ} {from k : ℕ} {found : Bool} {i : ℕ} → i < 32 → Later keys from k found i
-    → Later keys from k (found || eqb (getD keys i 0) k) (i + 1)
-later-next {keys} {from} {k} {found} {i} h inv =
-    record {
-      so-far = or-assoc found _ _ ∙ rw (any-next (equals k) keys i 0 (omega (arith, inv .long))) at (inv .so-far);
-      to = omega arith;
-      long = inv .long;
-    }
+-- x is taken by t, found among the others by a; k likewise by u and b; e says that x and k are equal
+apart : (t a u b d : Bool) → (not (t && (a || false)) && (d && not (u && b))) ≡ (not (t && a) && d && not (u && (false || b)))
+apart t a u b d = rw (or-false a) (sym (and-assoc (not (t && a)) d (not (u && b))))
 
-pub later-end : {keys : List ℕ} {from k : ℕ} {found : Bool} {i : ℕ} → 32 ≤ i → Later keys from k found i → found ≡ any (equals k) (drop from keys)
-later-end {keys} {from} {k} {found} {i} h inv =
-    sym (or-false found) ∙ rw (any-end (equals k) keys i (omega (arith, inv .long))) at (inv .so-far)
+alike : (t a d : Bool) → (not (t && (a || true)) && (d && not (t && a))) ≡ (not (t && a) && d && not (t && (true || a)))
+alike true true d = refl
+alike true false d = sym (and-false d)
+alike false a d = refl
 
--- a loop that compares each key with those after it
+differ-last : (xs : List ℕ) (k : ℕ) → keysDiffer (xs ++ (k ∷ [])) ≡ (keysDiffer xs && not (taken k && any (equals k) xs))
+unfolding keysDiffer any
+differ-last [] k = and-true (not (taken k && false))
+differ-last (x ∷ xs) k = rw (any-last (equals x) xs k, differ-last xs k) (go (eqb x k) refl)
+  where
+    go : (e : Bool) → eqb x k ≡ e
+        → (not (taken x && (any (equals x) xs || eqb k x)) && (keysDiffer xs && not (taken k && any (equals k) xs)))
+        ≡ (not (taken x && any (equals x) xs) && keysDiffer xs && not (taken k && (eqb x k || any (equals k) xs)))
+    go true e =
+        let same : x ≡ k = eqb-true x k e in
+        rw (e, eq-eqb k x (sym same), same) (alike (taken k) (any (equals k) xs) (keysDiffer xs))
+    go false e =
+        let other : eqb k x ≡ false = ne-eqb k x (λ f. eqb-false x k e (sym f)) in
+        rw (e, other) (apart (taken x) (any (equals x) xs) (taken k) (any (equals k) xs) (keysDiffer xs))
+
+-- a loop that compares each key with those before it
 pub record Differ (keys : List ℕ) (ok : Bool) (i : ℕ) : Type 0 where
-  pub so-far : (ok && keysDiffer (drop i keys)) ≡ keysDiffer keys
+  pub so-far : ok ≡ keysDiffer (take i keys)
   pub to : i ≤ 32
   pub long : length keys ≡ 32
+
+pub differ-none : (keys : List ℕ) → length keys ≡ 32 → Differ keys true 0
+unfolding keysDiffer
+differ-none keys h = record { so-far = refl; to = omega arith; long = h }
 
 pub differ-next : {keys : List ℕ} {ok : Bool} {i : ℕ} {found : Bool} → i < 32 → Differ keys ok i
-    → found ≡ (taken (getD keys i 0) && any (equals (getD keys i 0)) (drop (i + 1) keys)) → Differ keys (ok && not found) (i + 1)
-unfolding keysDiffer
+    → found ≡ (taken (getD keys i 0) && any (equals (getD keys i 0)) (take i keys)) → Differ keys (ok && not found) (i + 1)
 differ-next {keys} {ok} {i} h inv e =
     record {
-      so-far = and-assoc ok _ _ ∙ rw e (rw (drop-next keys i 0 (omega (arith, inv .long))) at (inv .so-far));
+      so-far = rw (take-next keys i 0 (omega (arith, inv .long)), differ-last (take i keys) (getD keys i 0), e, inv .so-far);
       to = omega arith;
       long = inv .long;
     }
 
 pub differ-end : {keys : List ℕ} {ok : Bool} {i : ℕ} → 32 ≤ i → Differ keys ok i → ok ≡ keysDiffer keys
-unfolding keysDiffer
-differ-end {keys} {ok} {i} h inv =
-    let past : length keys ≤ i = omega (arith, inv .long) in
-    sym (and-true ok) ∙ rw (drop-of-length-le keys past) at (inv .so-far)
+differ-end {keys} {ok} {i} h inv = inv .so-far ∙ ap keysDiffer (take-all i keys (omega (arith, inv .long)))
 
 -- the tests of the keys say what the definitions say of the rows
 gap-next : (t : Bool) (n : ℕ) (a b : Bool) → b ≡ not a → (not (taken (cond t (n + 1) 0)) && b) ≡ not (t || a)

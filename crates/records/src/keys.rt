@@ -2,8 +2,7 @@
 // compared with each other by keys, so that a desk is walked once and not copied.
 ghost use mathlib.Core.Bool.{false, _&&_};
 ghost use mathlib.Core.Path.{_≡_};
-ghost use Prim.Native.Nat.{_≤_};
-ghost use lib.ListN.{length, drop};
+ghost use lib.ListN.{length};
 ghost use Rattle.definitions.specs.Lists.{any};
 ghost use Rattle.records.specs.Keys.{keyOf, taken, equals, keysFirst, keysDiffer};
 use definitions::Row;
@@ -41,30 +40,30 @@ pub fn keys_first(keys: &[u64; 32]) -> bool
 }
 
 // A free row's key needs no walk.
-fn later_has(keys: &[u64; 32], from: usize, key: u64) -> bool
-    requires { ⌜ (from ≤ 32) × (length (now keys) ≡ 32) ⌝ }
-    ensures { λ r. ⌜ r ≡ (taken key && any (equals key) (drop from (now (keys .entry)))) ⌝ }
+fn holds(keys: &[u64], key: u64) -> bool
+    ensures { λ r. ⌜ r ≡ (taken key && any (equals key) (now (keys .entry))) ⌝ }
 {
     if key == 0 {
         return false;
     }
     let mut found = false;
-    let mut j = from;
-    while j < 32 {
-        found = found | (keys[j] == key);
-        j += 1;
+    let mut i = 0;
+    while i < keys.len() {
+        found = found | (keys[i] == key);
+        i += 1;
     }
     found
 }
 
-pub fn keys_differ(keys: &[u64; 32]) -> bool
+// Each key is compared with those before it: marked rows stand first, so that few rows cost few comparisons.
+pub fn keys_differ(keys: &[u64]) -> bool
     requires { ⌜ length (now keys) ≡ 32 ⌝ }
     ensures { λ r. ⌜ r ≡ keysDiffer (now (keys .entry)) ⌝ }
 {
     let mut ok = true;
     let mut i = 0;
     while i < 32 {
-        ok = ok & !later_has(keys, i + 1, keys[i]);
+        ok = ok & !holds(&keys[..i], keys[i]);
         i += 1;
     }
     ok

@@ -1,10 +1,11 @@
--- `records::keys::keys_differ` meets its contract: what was compared so far, and what is left, is the whole comparison.
+-- `records::keys::keys_differ` meets its contract: each key differs from those before it.
 -- Assumes nothing.
-use mathlib.Core.Path.{refl}
+use mathlib.Core.Path.{sym}
 use Prim.Native.Nat.{_-_}
 use native.Mathlib.Omega.{arith}
+use lib.Seq.{length-take-le}
 use borrow.Author.Needs.{needs}
-use Rattle.records.proofs.KeyLaws.{Differ, differ-next, differ-end}
+use Rattle.records.proofs.KeyLaws.{Differ, differ-none, differ-next, differ-end}
 use Rattle.records.proofs.keys.keys_differ.Statement.{statement}
 use Rattle.records.proofs.keys.keys_differ.Tie as tie
 
@@ -15,19 +16,21 @@ abbrev μ-loop : tie.MeasureT-loop
 μ-loop keys ok₀ i₀ ok i = 32 - i
 
 loop-holds : tie.Need-loop-holds Inv-loop μ-loop
-loop-holds c = record { so-far = refl; to = omega arith; long = c .pre }
+loop-holds c = differ-none _ (c .before .pre)
 
-add-later-has : tie.Need-add-later-has Inv-loop μ-loop
-add-later-has c = search needs
+slice-aggregate-holds : tie.Need-slice-aggregate-holds Inv-loop μ-loop
+slice-aggregate-holds c =
+    let turn = c .before .before .loop in
+    sym (length-take-le (turn .i) (c .before .before .before .before .args .keys .now) (omega (arith, turn .inv .to, turn .inv .long)))
 
-mul-later-has : tie.Need-mul-later-has Inv-loop μ-loop
-mul-later-has c = search needs
+mul-holds : tie.Need-mul-holds Inv-loop μ-loop
+mul-holds c = search needs
 
-element-copy-out-later-has : tie.Need-element-copy-out-later-has Inv-loop μ-loop
-element-copy-out-later-has c = search needs
+shared-slice-read-holds : tie.Need-shared-slice-read-holds Inv-loop μ-loop
+shared-slice-read-holds c = search needs
 
-later-has-requires : tie.Need-later-has-requires Inv-loop μ-loop
-later-has-requires c κs = search needs
+holds-requires : tie.Need-holds-requires Inv-loop μ-loop
+holds-requires c κs = search needs
 
 add-i : tie.Need-add-i Inv-loop μ-loop
 add-i c = search needs
@@ -36,8 +39,7 @@ loop-less : tie.Need-loop-less Inv-loop μ-loop
 loop-less c = omega arith
 
 loop-again : tie.Need-loop-again Inv-loop μ-loop
-loop-again c =
-    differ-next (c .before .before .loop-test .taken) (c .before .before .before .loop .inv) (c .later-has .ensures)
+loop-again c = differ-next (c .before .before .before .loop-test .taken) (c .before .before .before .before .loop .inv) (c .holds .ensures)
 
 returns : tie.Need-returns Inv-loop μ-loop
 returns c = differ-end (c .loop-test .left) (c .before .loop .inv)
@@ -49,10 +51,10 @@ keys-differ-spec =
     Inv-loop
     μ-loop
     loop-holds
-    add-later-has
-    mul-later-has
-    element-copy-out-later-has
-    later-has-requires
+    slice-aggregate-holds
+    mul-holds
+    shared-slice-read-holds
+    holds-requires
     add-i
     loop-less
     loop-again

@@ -1,6 +1,6 @@
 -- `records::sound::sound_desk` meets its contract: each turn tests a row and notes its key; then the keys are compared.
 -- Assumes nothing.
-use mathlib.Core.Path.{refl}
+use mathlib.Core.Path.{refl, sym}
 use Prim.Native.Nat.{_-_}
 use native.Mathlib.Omega.{arith}
 use Rattle.records.proofs.Laws.{length-mapped}
@@ -50,6 +50,9 @@ loop-again c =
 keys-first-requires : tie.Need-keys-first-requires Inv-loop μ-loop
 keys-first-requires c κs = c .before .before .loop .inv .long
 
+slice-aggregate-keys-differ : tie.Need-slice-aggregate-keys-differ Inv-loop μ-loop
+slice-aggregate-keys-differ c = sym (c .before .before .before .before .loop .inv .long)
+
 keys-differ-requires : tie.Need-keys-differ-requires Inv-loop μ-loop
 keys-differ-requires c κs = c .before .before .before .before .loop .inv .long
 
@@ -75,5 +78,6 @@ sound-desk-spec =
     loop-less
     loop-again
     keys-first-requires
+    slice-aggregate-keys-differ
     keys-differ-requires
     returns)
