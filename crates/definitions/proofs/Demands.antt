@@ -1,23 +1,18 @@
 -- The three demands of paper 00 as theorems over the definitions of paper 01. Read this file first: each theorem stands under the sentence that it
 -- proves, and each definition that it names is in crates/definitions/specs. That the code does what `step` says is the contract of `gate::handle`.
 -- Assumes nothing.
-use mathlib.Core.Bool.{true}
+use mathlib.Core.Bool.{Bool, true, not}
 use mathlib.Core.List.{List}
-use mathlib.Core.Path.{_≡_, refl, ap, sym, _∙_}
+use mathlib.Core.Path.{_≡_, ap, sym, _∙_}
 use Prim.Native.Nat.{ℕ, _<_}
-use lib.Dec.{lit<}
 use Rattle.definitions.specs.declared.Order.{Order}
 use Rattle.definitions.specs.declared.Event.the-variants as event
-use Rattle.definitions.specs.declared.Reading.the-variants as reading
-use Rattle.definitions.specs.declared.Answer.{Answer}
 use Rattle.definitions.specs.declared.Answer.the-variants as answer
-use Rattle.definitions.specs.Lists.{keep}
-use Rattle.definitions.specs.State.{headerOf, sizesFit, fresh, securityAt, deskAt, deskWords, stateFits}
-use Rattle.definitions.specs.Events.{readEvent}
+use Rattle.definitions.specs.Lists.{all, keep}
+use Rattle.definitions.specs.State.{headerOf, sizesFit, fresh, securityAt, deskAt, putDesk, deskWords, stateFits}
 use Rattle.definitions.specs.Rules.{verdictOf}
 use Rattle.definitions.specs.Desks.{ordered}
-use Rattle.definitions.specs.Refusals.{firstMet}
-use Rattle.definitions.specs.Gate.{conditions, stepAnswer, stepWords, wordsAfter, answersTo, allSound}
+use Rattle.definitions.specs.Gate.{answerOf, wordsOf, eventIn, conditions, perform, step, stepAnswer, stepWords, wordsAfter, answersTo, allSound}
 use Rattle.definitions.specs.Lone.{Lone, loneFresh, loneAfter, loneAnswers, concerns, marketWords, customerWords}
 use Rattle.definitions.proofs.State as state
 use Rattle.definitions.proofs.WellFormed.{Good, fits, all-sound}
@@ -40,8 +35,12 @@ refused-by-condition w b n e =
     turned.found-first n (conditions w b) (t .first) (t .some)
 
 -- "and an event that meets such a condition gets the number found first"
-pub condition-refuses : (w b : List ℕ) (n : ℕ) → firstMet (conditions w b) ≡ n → (n ≡ 0 → ⊥) → stepAnswer w b ≡ answer.Refused n
-condition-refuses = turned.refuses
+pub condition-refuses : (w b : List ℕ) (n : ℕ) → FoundFirst n (conditions w b) → (n ≡ 0 → ⊥) → stepAnswer w b ≡ answer.Refused n
+condition-refuses w b n found some = turned.refuses w b n (turned.first-found n (conditions w b) found) some
+
+-- so that an event that is not refused meets none of the thirteen
+pub unrefused-meets-none : (w b : List ℕ) → ((n : ℕ) → stepAnswer w b ≡ answer.Refused n → ⊥) → all (λ (c : ℕ × Bool). not (c .1)) (conditions w b) ≡ true
+unrefused-meets-none w b answered = turned.none-met (conditions w b) (turned.positive w b) (turned.unrefused w b answered)
 
 -- DEMAND 2, of the definitions: "From a fresh state, the verdict of every order not refused is the one that the exchange's 2011 screening standard, as
 -- condensed in document 01, gives for the events so far .. Rows and counters follow the same definition."
@@ -56,6 +55,26 @@ module _ (customers securities : ℕ) (fit : sizesFit customers securities ≡ t
 
   pub records-sound : (history : List (List ℕ)) → allSound (wordsAfter (fresh customers securities) history) ≡ true
   records-sound history = all-sound (wordsAfter (fresh customers securities) history) (well-formed history)
+
+  -- after every history an event that is not refused does what `perform` says of its kind
+  pub performs : (history : List (List ℕ)) (b : List ℕ) → ((n : ℕ) → stepAnswer (wordsAfter (fresh customers securities) history) b ≡ answer.Refused n → ⊥)
+      → step (wordsAfter (fresh customers securities) history) b ≡ perform (wordsAfter (fresh customers securities) history) (eventIn b)
+  performs history b answered = turned.unrefused-performs (wordsAfter (fresh customers securities) history) b answered
+
+  -- and an order gets the first verdict that applies to the session, the clock, its security, its customer's desk and itself; its desk's counters and rows
+  -- follow that verdict, and no other word changes
+  pub record Judged (w b : List ℕ) (k : ℕ) (o : Order) : Type 0 where
+    pub verdict : stepAnswer w b ≡ answer.Verdict (verdictOf (headerOf w .session) (headerOf w .clock) (securityAt w (o .security)) (deskAt w k) o)
+    pub words : stepWords w b ≡ putDesk w k (ordered (verdictOf (headerOf w .session) (headerOf w .clock) (securityAt w (o .security)) (deskAt w k) o) (headerOf w .clock) o (deskAt w k))
+
+  pub judged : (history : List (List ℕ)) (b : List ℕ) (k : ℕ) (o : Order) → eventIn b ≡ event.Order k o
+      → ((n : ℕ) → stepAnswer (wordsAfter (fresh customers securities) history) b ≡ answer.Refused n → ⊥)
+      → Judged (wordsAfter (fresh customers securities) history) b k o
+  unfolding perform
+  judged history b k o e answered =
+      let w = wordsAfter (fresh customers securities) history in
+      let does : step w b ≡ perform w (event.Order k o) = performs history b answered ∙ ap (perform w) e in
+      record { verdict = ap answerOf does; words = ap (wordsOf w) does }
 
   -- DEMAND 3: for every history and every customer k, "these answers, rows, counters and words are exactly those of the lone run in document 01, which is
   -- fed these events and nothing of the others"

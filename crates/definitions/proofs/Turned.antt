@@ -1,19 +1,20 @@
 -- Refusals: which condition is met, that it is the first, and that the words stay equal.
 -- Assumes nothing.
-use mathlib.Core.Bool.{Bool, true, false, cond, not}
+use mathlib.Core.Bool.{Bool, true, false, cond, _&&_, not, and-eq-true-iff}
 use mathlib.Core.List.{List, [], _∷_, _++_}
 use mathlib.Core.Path.{_≡_, refl, ap, sym, subst, _∙_}
 use Prim.Native.Nat.{ℕ, _<_}
 use native.Mathlib.Omega.{arith}
 use lib.Dec.{eqb}
 use lib.ListN.{length, getD}
-use borrow.Author.Tests.{eqb-false, ne-eqb}
+use borrow.Author.Tests.{eqb-true, eqb-false, ne-eqb, not-true}
 use Rattle.definitions.specs.declared.Event.{Event}
 use Rattle.definitions.specs.declared.Event.the-variants as event
 use Rattle.definitions.specs.declared.Reading.{Reading}
 use Rattle.definitions.specs.declared.Reading.the-variants as reading
 use Rattle.definitions.specs.declared.Answer.{Answer}
 use Rattle.definitions.specs.declared.Answer.the-variants as answer
+use Rattle.definitions.specs.Lists.{all}
 use Rattle.definitions.specs.State.{stateFits}
 use Rattle.definitions.specs.Events.{lengthOf, eventOf, readEvent}
 use Rattle.definitions.specs.Refusals.{firstMet}
@@ -85,3 +86,38 @@ found-first n (c ∷ cs) e some = go (c .0) (c .1) e (λ f. found-first n cs f s
     go : (m : ℕ) (t : Bool) → cond t m (firstMet cs) ≡ n → (firstMet cs ≡ n → FoundFirst n cs) → FoundFirst n ((m, t) ∷ cs)
     go m true f rest = subst (λ (i : ℕ). FoundFirst n ((i, true) ∷ cs)) (sym f) (here cs)
     go m false f rest = below m cs (rest f)
+
+-- the other way round: what stands first in that sense is what `firstMet` gives
+pub first-found : (n : ℕ) (cs : List (ℕ × Bool)) → FoundFirst n cs → firstMet cs ≡ n
+unfolding firstMet
+first-found n cs (here rest) = refl
+first-found n cs (below m rest found) = first-found n rest found
+
+-- where no number of a table is 0 and nothing is found, no condition is met
+pub none-met : (cs : List (ℕ × Bool)) → all (λ (c : ℕ × Bool). not (eqb (c .0) 0)) cs ≡ true → firstMet cs ≡ 0 → all (λ (c : ℕ × Bool). not (c .1)) cs ≡ true
+unfolding firstMet all
+none-met [] positive none = refl
+none-met (c ∷ cs) positive none = go (c .0) (c .1) positive none (none-met cs)
+  where
+    go : (m : ℕ) (t : Bool) → (not (eqb m 0) && all (λ (d : ℕ × Bool). not (eqb (d .0) 0)) cs) ≡ true → cond t m (firstMet cs) ≡ 0
+        → (all (λ (d : ℕ × Bool). not (eqb (d .0) 0)) cs ≡ true → firstMet cs ≡ 0 → all (λ (d : ℕ × Bool). not (d .1)) cs ≡ true)
+        → (not t && all (λ (d : ℕ × Bool). not (d .1)) cs) ≡ true
+    go m true p f rest =
+        let some = not-true (eqb m 0) (and-eq-true-iff (not (eqb m 0)) (all (λ (d : ℕ × Bool). not (eqb (d .0) 0)) cs) .0 p .0) in
+        absurd (eqb-false m 0 some f)
+    go m false p f rest = rest (and-eq-true-iff (not (eqb m 0)) (all (λ (d : ℕ × Bool). not (eqb (d .0) 0)) cs) .0 p .1) f
+
+pub positive : (w b : List ℕ) → all (λ (c : ℕ × Bool). not (eqb (c .0) 0)) (conditions w b) ≡ true
+unfolding conditions all
+positive w b = refl
+
+-- an event that is not refused meets no condition, and is done
+pub unrefused : (w b : List ℕ) → ((n : ℕ) → stepAnswer w b ≡ answer.Refused n → ⊥) → firstMet (conditions w b) ≡ 0
+unrefused w b answered = go (eqb (firstMet (conditions w b)) 0) refl
+  where
+    go : (t : Bool) → eqb (firstMet (conditions w b)) 0 ≡ t → firstMet (conditions w b) ≡ 0
+    go true e = eqb-true (firstMet (conditions w b)) 0 e
+    go false e = absurd (answered (firstMet (conditions w b)) (refuses w b (firstMet (conditions w b)) refl (eqb-false (firstMet (conditions w b)) 0 e)))
+
+pub unrefused-performs : (w b : List ℕ) → ((n : ℕ) → stepAnswer w b ≡ answer.Refused n → ⊥) → step w b ≡ perform w (eventIn b)
+unrefused-performs w b answered = step-by-table w b ∙ ap (λ (n : ℕ). turnedOr n (perform w (eventIn b))) (unrefused w b answered)

@@ -1,4 +1,4 @@
--- Answers as numbers, for callers in other languages, and as the words of the day program's listing.
+-- Answers as numbers, for callers in other languages.
 use mathlib.Core.List.{List, [], _∷_}
 use Prim.Native.Nat.{ℕ, _+_}
 use Rattle.definitions.specs.declared.Verdict.{Verdict}

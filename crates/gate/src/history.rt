@@ -8,7 +8,9 @@ use definitions::Verdict;
 use reader::Step;
 
 // Handles as many events as there are places for answers, writes the number of each answer to its place, and gives the count. The contract carries
-// demand 3: over a fresh state, what the words and the answers hold of the market and of each customer is what that customer's lone run holds.
+// demand 3 to the code, for the histories that bytes one after another can spell: over a fresh state, what the words and the answers hold of the
+// market and of each customer is what that customer's lone run holds. Bytes that are no whole event end such a history; for all others the claim is
+// `isolated` of the definitions with `handle`'s contract, call by call.
 pub fn run(words: &mut [u32], events: &[u8], answers: &mut [u32]) -> usize
     ensures { λ count.
         ⌜ Ran (now (words .entry)) (now (events .entry)) (now (answers .entry)) count (now (words .exit)) (now (answers .exit)) ⌝ }

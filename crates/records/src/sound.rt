@@ -34,7 +34,7 @@ pub fn sound_security(s: Security) -> bool
         & (s.free <= 1)
         & (s.first_day <= 1)
         & price_or_absent(s.prior_close)
-        & (s.ipo <= 10_000_000)
+        & (s.ipo <= Ladder::LAST_PRICE)
         & sound_board(main)
         & sound_board(foreign)
 }
