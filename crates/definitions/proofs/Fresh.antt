@@ -1,20 +1,17 @@
 -- A fresh state is well formed, and is at first what the lone run holds.
 -- Assumes nothing.
 use mathlib.Core.Bool.{true}
-use mathlib.Core.List.{List, [], _∷_, _++_, append-assoc}
-use mathlib.Core.Path.{_≡_, refl, ap, sym, subst, _∙_}
-use Prim.Native.Nat.{ℕ, zero, suc, _+_, _-_, _*_, _≤_, _<_}
-use native.Mathlib.Nat.{mul-suc, le-of-suc-le-suc, not-suc-le-zero}
+use mathlib.Core.List.{List, _++_, append-assoc}
+use mathlib.Core.Path.{_≡_, refl, ap, sym, _∙_}
+use Prim.Native.Nat.{ℕ, zero, suc, _+_, _-_, _*_, _<_}
+use native.Mathlib.Nat.{le-of-suc-le-suc, not-suc-le-zero}
 use native.Mathlib.Omega.{arith}
 use lib.Dec.{lit≤}
 use lib.ListN.{length, take, drop, replicate, length-append, length-replicate, replicate-append-replicate}
 use lib.Seq.{take-at, drop-at, drop-drop, drop-append-add}
 use Rattle.definitions.specs.declared.Header.{Header}
-use Rattle.definitions.specs.declared.Desk.{Desk}
-use Rattle.definitions.specs.Codes.{lastTime, preClose}
 use Rattle.definitions.specs.Lists.{part, repeat}
 use Rattle.definitions.specs.State.{headerOf, securityPlace, deskPlace, sizesFit, freshSecurity, freshMarket, fresh, securityOf, securityWords, securityAt, rowOf, rowsOf, deskOf, deskAt}
-use Rattle.definitions.specs.Sound.{soundSecurity, soundDesk}
 use Rattle.definitions.specs.Desks.{freshDesk}
 use Rattle.definitions.specs.Lone.{marketWords}
 use Rattle.definitions.proofs.Records.{length-security, security-read}

@@ -1,15 +1,14 @@
 -- The clock and the session, set in the header: nothing else of a state changes.
 -- Assumes nothing.
 use mathlib.Core.List.{List, [], _∷_}
-use mathlib.Core.Path.{_≡_, refl, ap, sym, _∙_}
+use mathlib.Core.Path.{_≡_, refl, ap, _∙_}
 use Prim.Native.Nat.{ℕ, _+_, _≤_, _<_}
 use native.Mathlib.Omega.{arith}
-use lib.ListN.{length, getD}
+use lib.ListN.{length}
 use Rattle.definitions.specs.declared.Header.{Header}
-use Rattle.definitions.specs.Lists.{part, put}
+use Rattle.definitions.specs.Lists.{put}
 use Rattle.definitions.specs.State.{headerOf, clockPlace, sessionPlace, securityPlace, deskPlace, securityOf, deskOf, securityAt, deskAt}
 use Rattle.definitions.specs.Lone.{marketWords}
-use Rattle.definitions.specs.Gate.{afterClock}
 use Rattle.definitions.proofs.Words as words
 use Rattle.definitions.proofs.State.{Sized}
 

@@ -2,12 +2,12 @@
 -- Assumes nothing.
 use mathlib.Core.Bool.{Bool, true, false, cond}
 use mathlib.Core.List.{List, [], _∷_}
-use mathlib.Core.Path.{_≡_, refl, ap, ap₂, sym, _∙_}
+use mathlib.Core.Path.{_≡_, refl, ap, sym, _∙_}
 use Prim.Native.Nat.{ℕ, _<_}
 use Rattle.definitions.specs.declared.Answer.{Answer}
 use Rattle.definitions.specs.Lists.{keep}
 use Rattle.definitions.specs.Gate.{stepWords, stepAnswer, wordsAfter, answersTo}
-use Rattle.definitions.specs.Lone.{Lone, LoneStep, loneStep, loneAfter, loneAnswers, concerns}
+use Rattle.definitions.specs.Lone.{Lone, LoneStep, loneAfter, loneAnswers, concerns}
 use Rattle.definitions.proofs.WellFormed.{Good, keeps}
 use Rattle.definitions.proofs.Isolation.{loneOf, same-step, other-step}
 

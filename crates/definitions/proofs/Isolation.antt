@@ -1,15 +1,14 @@
 -- One event, seen by the lone run of k: an event of the market or of k does there what it does to the market's words and k's desk in the gate, and any
 -- other event leaves both as they were.
 -- Assumes nothing.
-use mathlib.Core.Bool.{Bool, true, false, cond, _&&_, _||_, not, true≢false, false≢true, and-eq-true-iff}
+use mathlib.Core.Bool.{Bool, true, false, cond, _&&_, not, true≢false, false≢true, and-eq-true-iff}
 use mathlib.Core.List.{List, [], _∷_}
-use mathlib.Core.Logic.{_⊎_, inl, inr, ⊎-elim}
-use mathlib.Core.Path.{_≡_, refl, ap, ap₂, sym, subst, _∙_}
-use Prim.Native.Nat.{ℕ, _≤_, _<_}
-use native.Mathlib.Omega.{arith}
+use mathlib.Core.Logic.{⊎-elim}
+use mathlib.Core.Path.{_≡_, refl, ap, ap₂, sym, _∙_}
+use Prim.Native.Nat.{ℕ, _<_}
 use lib.Dec.{leb, ltb, eqb, lit≤, lit<}
 use lib.ListN.{length}
-use borrow.Author.Tests.{eqb-true, eqb-false, ltb-true, ltb-false, leb-true, le-leb, lt-ltb}
+use borrow.Author.Tests.{eqb-true, eqb-false, leb-true, lt-ltb}
 use Rattle.definitions.specs.declared.Header.{Header}
 use Rattle.definitions.specs.declared.Security.{Security}
 use Rattle.definitions.specs.declared.Desk.{Desk}
@@ -21,20 +20,19 @@ use Rattle.definitions.specs.declared.Reading.the-variants as reading
 use Rattle.definitions.specs.declared.Answer.{Answer}
 use Rattle.definitions.specs.declared.Answer.the-variants as answer
 use Rattle.definitions.specs.Lists.{each, put}
-use Rattle.definitions.specs.State.{headerOf, sizesFit, securityAt, deskAt, putSecurity, putDesk, sessionPlace}
-use Rattle.definitions.specs.Events.{Owner, customer, nobody, readEvent, customerNamed, securityNamed, customerBelow, ownerOfEvent, ownerOfReading, ownerOf}
-use Rattle.definitions.specs.Desks.{swept, ordered, cancelled, matched}
+use Rattle.definitions.specs.State.{headerOf, securityAt, deskAt, putSecurity, putDesk, sessionPlace}
+use Rattle.definitions.specs.Events.{customer, nobody, readEvent, customerNamed, securityNamed, customerBelow, ownerOfEvent, ownerOfReading, ownerOf}
+use Rattle.definitions.specs.Desks.{swept, ordered, cancelled}
 use Rattle.definitions.specs.Rules.{verdictOf}
 use Rattle.definitions.specs.Refusals as refusals
 use Rattle.definitions.specs.Refusals.{View, firstMet}
-use Rattle.definitions.specs.Gate.{Outcome, turned, answerOf, wordsOf, viewOf, allSound, unsound, refusal, afterSetup, afterPrices, afterClock, afterSession, sessionMarket, clearProjectedAt, sweepDeskAt, perform, stepEvent, stepReading, step, stepWords, stepAnswer}
+use Rattle.definitions.specs.Gate.{Outcome, turned, answerOf, wordsOf, viewOf, unsound, refusal, afterSetup, afterPrices, afterClock, afterSession, sessionMarket, clearProjectedAt, sweepDeskAt, perform, stepEvent, stepReading, step, stepWords}
 use Rattle.definitions.specs.Lone.{Lone, LoneStep, marketWords, loneView, loneRefusal, loneDone, loneSession, lonePerform, loneTurned, loneEvent, loneReading, loneStep, fedTo, concerns}
 use Rattle.definitions.proofs.State as state
 use Rattle.definitions.proofs.HeaderWords as words
 use Rattle.definitions.proofs.Passed.{Passed, passed}
-use Rattle.definitions.proofs.Session.{Cleared, Swept}
 use Rattle.definitions.proofs.SoundDesk as desk
-use Rattle.definitions.proofs.WellFormed.{Good, compared, sessionSet, all-sound, cleared, whole-session, order-names, step-is, below-securities, below-customers, desk-sound}
+use Rattle.definitions.proofs.WellFormed.{Good, compared, all-sound, cleared, whole-session, order-names, step-is, below-securities, below-customers, desk-sound}
 
 -- what the lone run of k holds of a state
 abbrev pub loneOf : List ℕ → ℕ → Lone

@@ -1,24 +1,23 @@
 -- Refusals: which condition is met, that it is the first, and that the words stay equal.
 -- Assumes nothing.
 use mathlib.Core.Bool.{Bool, true, false, cond, _&&_, not, and-eq-true-iff}
-use mathlib.Core.List.{List, [], _∷_, _++_}
+use mathlib.Core.List.{List, [], _∷_}
 use mathlib.Core.Path.{_≡_, refl, ap, sym, subst, _∙_}
-use Prim.Native.Nat.{ℕ, _<_}
+use Prim.Native.Nat.{ℕ}
 use native.Mathlib.Omega.{arith}
 use lib.Dec.{eqb}
 use lib.ListN.{length, getD}
 use borrow.Author.Tests.{eqb-true, eqb-false, ne-eqb, not-true}
 use Rattle.definitions.specs.declared.Event.{Event}
 use Rattle.definitions.specs.declared.Event.the-variants as event
-use Rattle.definitions.specs.declared.Reading.{Reading}
 use Rattle.definitions.specs.declared.Reading.the-variants as reading
 use Rattle.definitions.specs.declared.Answer.{Answer}
 use Rattle.definitions.specs.declared.Answer.the-variants as answer
 use Rattle.definitions.specs.Lists.{all}
 use Rattle.definitions.specs.State.{stateFits}
-use Rattle.definitions.specs.Events.{lengthOf, eventOf, readEvent}
+use Rattle.definitions.specs.Events.{lengthOf, readEvent}
 use Rattle.definitions.specs.Refusals.{firstMet}
-use Rattle.definitions.specs.Gate.{Outcome, turned, done, answerOf, wordsOf, eventIn, conditions, refusal, perform, turnedOr, stepEvent, stepReading, step, stepAnswer, stepWords}
+use Rattle.definitions.specs.Gate.{turned, answerOf, wordsOf, eventIn, conditions, refusal, perform, turnedOr, stepEvent, stepReading, step, stepAnswer, stepWords}
 
 -- the step is: turned back by the first condition of the whole table that is met, and done if none is
 pub step-by-table : (w b : List ℕ) → step w b ≡ turnedOr (firstMet (conditions w b)) (perform w (eventIn b))

@@ -1,13 +1,13 @@
 -- A well-formed state: its sizes, clock and session fit and every record is sound. Each event keeps it, so conditions 1 and 8 never arise in a history.
 -- Assumes nothing.
-use mathlib.Core.Bool.{Bool, true, false, cond, _&&_, _||_, not, true≢false}
+use mathlib.Core.Bool.{Bool, true, false, cond, _||_, true≢false}
 use mathlib.Core.List.{List, [], _∷_}
 use mathlib.Core.Logic.{_⊎_, inl, inr, ⊎-elim}
-use mathlib.Core.Path.{_≡_, refl, ap, sym, subst, _∙_}
-use Prim.Native.Nat.{ℕ, zero, suc, _+_, _≤_, _<_}
+use mathlib.Core.Path.{_≡_, refl, ap, _∙_}
+use Prim.Native.Nat.{ℕ, zero, suc, _≤_, _<_}
 use native.Mathlib.Nat.{le-refl}
 use native.Mathlib.Omega.{arith}
-use lib.Dec.{leb, ltb, eqb, lit≤, lit<}
+use lib.Dec.{leb, eqb, lit≤, lit<}
 use lib.ListN.{length}
 use borrow.Author.Tests.{eq-eqb, le-leb, leb-false, ltb-false, eqb-true}
 use Rattle.definitions.specs.declared.Header.{Header}
@@ -19,16 +19,14 @@ use Rattle.definitions.specs.declared.Reading.{Reading}
 use Rattle.definitions.specs.declared.Reading.the-variants as reading
 use Rattle.definitions.specs.Codes.{lastTime, preClose}
 use Rattle.definitions.specs.Lists.{allBelow, each, put}
-use Rattle.definitions.specs.State.{headerOf, securityAt, deskAt, putSecurity, putDesk, stateFits, sizesFit, stateSize, clockPlace, sessionPlace}
+use Rattle.definitions.specs.State.{headerOf, securityAt, deskAt, putSecurity, putDesk, stateFits, sizesFit, stateSize, sessionPlace}
 use Rattle.definitions.specs.Sound.{soundSecurity, soundDesk}
 use Rattle.definitions.specs.Events.{readEvent}
-use Rattle.definitions.specs.Desks.{swept}
 use Rattle.definitions.specs.Refusals as refusals
-use Rattle.definitions.specs.Gate.{turned, wordsOf, viewOf, allSound, soundSecurityAt, soundDeskAt, refusal, clearProjectedAt, sweepDeskAt, sessionMarket, afterClock, afterSession, perform, turnedOr, stepEvent, stepReading, step, stepWords, wordsAfter}
+use Rattle.definitions.specs.Gate.{turned, wordsOf, viewOf, allSound, soundSecurityAt, soundDeskAt, refusal, sweepDeskAt, sessionMarket, afterClock, afterSession, perform, stepEvent, stepReading, step, stepWords}
 use Rattle.definitions.proofs.State as state
 use Rattle.definitions.proofs.State.{Sized}
 use Rattle.definitions.proofs.HeaderWords as words
-use Rattle.definitions.proofs.HeaderWords.{withClock, withSession}
 use Rattle.definitions.proofs.Passed.{Passed, passed}
 use Rattle.definitions.proofs.Session.{Cleared, clears, Swept, sweeps}
 use Rattle.definitions.proofs.SoundDesk as desk

@@ -1,12 +1,12 @@
 -- Laws of `part` and `put`: the words of a place after others were put there, before it, or after it.
 -- Assumes nothing.
-use mathlib.Core.List.{List, [], _∷_, _++_, append-assoc}
-use mathlib.Core.Path.{_≡_, refl, ap, sym, subst, _∙_}
+use mathlib.Core.List.{List, [], _∷_, _++_}
+use mathlib.Core.Path.{_≡_, refl, ap, sym, _∙_}
 use Prim.Native.Nat.{ℕ, zero, suc, _+_, _-_, _≤_, _<_}
 use native.Mathlib.Nat.{sub-zero, zero-sub, suc-sub-suc}
 use native.Mathlib.Omega.{arith}
 use lib.ListN.{length, getD, take, drop, length-append, length-take, length-drop, List·getD-append}
-use lib.Seq.{length-take-le, take-append-le, drop-append-le, take-at, drop-at, take-take, drop-drop, getD-take, take-append-add, drop-append-add, take-nil}
+use lib.Seq.{length-take-le, take-append-le, take-at, drop-at, take-take, drop-drop, getD-take, take-append-add, drop-append-add, take-nil}
 use Rattle.definitions.specs.Lists.{part, put}
 
 drop-take : (i m : ℕ) (l : List ℕ) → drop i (take m l) ≡ take (m - i) (drop i l)

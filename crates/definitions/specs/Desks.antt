@@ -1,6 +1,6 @@
 -- Paper 01, "Events" and "The lone run": how rows and counters change.
 use mathlib.Core.Bool.{Bool, true, false, cond, _&&_, _||_, not}
-use mathlib.Core.List.{List, [], _∷_, _++_, map}
+use mathlib.Core.List.{List, _++_, map}
 use Prim.Native.Nat.{ℕ, _+_, _-_}
 use lib.Dec.{leb, ltb, eqb}
 use lib.ListN.{length, replicate, set}
@@ -10,7 +10,7 @@ use Rattle.definitions.specs.declared.Order.{Order}
 use Rattle.definitions.specs.declared.Verdict.{Verdict}
 use Rattle.definitions.specs.declared.Verdict.the-variants as verdict
 use Rattle.definitions.specs.Codes.{openMark, cancelledMark, limit, mp, remembered, deskRows, mostCounted}
-use Rattle.definitions.specs.Lists.{any, keep, count}
+use Rattle.definitions.specs.Lists.{keep, count}
 use Rattle.definitions.specs.Sound.{marked}
 
 abbrev pub freeRow : Row

@@ -1,10 +1,9 @@
 -- Paper 01, "Events": bytes to one event or a refusal, and to whom an event belongs.
-use mathlib.Core.Bool.{Bool, true, false, cond}
+use mathlib.Core.Bool.{cond}
 use mathlib.Core.List.{List, [], _∷_}
 use Prim.Native.Nat.{ℕ, _+_, _-_, _*_}
 use lib.Dec.{ltb, eqb}
 use lib.ListN.{length, getD}
-use Rattle.definitions.specs.declared.Board.{Board}
 use Rattle.definitions.specs.declared.Setup.{Setup}
 use Rattle.definitions.specs.declared.Prices.{Prices}
 use Rattle.definitions.specs.declared.Order.{Order}

@@ -1,11 +1,10 @@
 -- Paper 01, "Where an event is turned back": the conditions 4 to 7 and 9 to 12. They see the header, the security and the desk that the event
 -- names. Condition 1 is `stateFits` of State, conditions 2 and 3 are `readEvent` of Events, and condition 8, which sees all the words, is in Gate.
-use mathlib.Core.Bool.{Bool, true, false, cond, _&&_, _||_, not}
+use mathlib.Core.Bool.{Bool, false, cond, _&&_, _||_, not}
 use mathlib.Core.List.{List, [], _∷_}
 use Prim.Native.Nat.{ℕ}
 use lib.Dec.{leb, ltb, eqb}
 use Rattle.ladder.specs.Bands.{lastPrice}
-use Rattle.ladder.specs.Ladder.{legal}
 use Rattle.definitions.specs.declared.Header.{Header}
 use Rattle.definitions.specs.declared.Security.{Security}
 use Rattle.definitions.specs.declared.Row.{Row}
@@ -15,7 +14,7 @@ use Rattle.definitions.specs.declared.Prices.{Prices}
 use Rattle.definitions.specs.declared.Order.{Order}
 use Rattle.definitions.specs.declared.Event.{Event}
 use Rattle.definitions.specs.declared.Event.the-variants as event
-use Rattle.definitions.specs.Codes.{preClose, foreignBoard, sell, limit, mp, dma, lastTime, deskRows}
+use Rattle.definitions.specs.Codes.{preClose, foreignBoard, sell, mp, dma, lastTime, deskRows}
 use Rattle.definitions.specs.Lists.{any, count}
 use Rattle.definitions.specs.Sound.{listedLot, soundBoard, priceOrAbsent, pricedAs}
 use Rattle.definitions.specs.Desks.{live, openWith, takesRow}

@@ -1,6 +1,6 @@
 -- Events one after another in lent bytes: where each ends. "`refused 2` or `refused 3` ends the listing; so does the end of the bytes": an unknown
 -- kind, or a kind with fewer bytes left than its length, takes all that is left.
-use mathlib.Core.Bool.{Bool, cond, _||_}
+use mathlib.Core.Bool.{cond, _||_}
 use mathlib.Core.List.{List, [], _∷_}
 use Prim.Native.Nat.{ℕ, zero, suc}
 use lib.Dec.{ltb, eqb}

@@ -1,11 +1,11 @@
 -- What each kind's tests say of the conditions, over plain variables: h, s and d are what the code took out of the words.
 -- Assumes nothing.
-use mathlib.Core.Bool.{Bool, true, false, cond, _&&_, _||_, not, and-false, or-true}
+use mathlib.Core.Bool.{Bool, true, false, _&&_, _||_, not, and-false}
 use mathlib.Core.List.{List}
 use mathlib.Core.Path.{_≡_, refl, ap, ap₂, sym, subst, _∙_}
-use Prim.Native.Nat.{ℕ, _<_}
-use lib.Dec.{leb, ltb, eqb}
-use borrow.Author.Tests.{leb-false, ne-eqb, eq-eqb}
+use Prim.Native.Nat.{ℕ}
+use lib.Dec.{eqb}
+use borrow.Author.Tests.{ne-eqb, eq-eqb}
 use Rattle.definitions.specs.declared.Header.{Header}
 use Rattle.definitions.specs.declared.Security.{Security}
 use Rattle.definitions.specs.declared.Desk.{Desk}
@@ -24,7 +24,7 @@ use Rattle.definitions.specs.Sound.{soundSecurity, soundDesk}
 use Rattle.definitions.specs.Desks.{live, openWith, takesRow, ordered, cancelled, matched}
 use Rattle.definitions.specs.Rules.{verdictOf}
 use Rattle.definitions.specs.Refusals.{names, liveWith, openBelow, numberTaken, noOpenRow, matchVolume, deskFull}
-use Rattle.definitions.specs.Gate.{Result, result, resultOf, viewOf, unsound, perform, afterSetup, afterPrices}
+use Rattle.definitions.specs.Gate.{result, resultOf, viewOf, unsound, perform, afterSetup, afterPrices}
 
 pub or-left : (a b : Bool) → (a || b) ≡ false → a ≡ false
 or-left true b e = e

@@ -1,15 +1,15 @@
 -- The exits of the gate, in the table's order: what the tests so far say, and what the answer and the words then are. Each exit of the code cites one.
 -- Assumes nothing.
-use mathlib.Core.Bool.{Bool, true, false, cond}
+use mathlib.Core.Bool.{true, false}
 use mathlib.Core.List.{List}
-use mathlib.Core.Path.{_≡_, refl, ap, sym, _∙_}
+use mathlib.Core.Path.{_≡_, refl}
 use Prim.Native.Nat.{ℕ}
 use lib.Dec.{eqb}
 use Rattle.definitions.specs.declared.Event.{Event}
 use Rattle.definitions.specs.declared.Answer.the-variants.{Refused}
 use Rattle.definitions.specs.State.{headerOf}
 use Rattle.definitions.specs.Refusals.{names, codes, prices, earlier, numberTaken, noOpenRow, matchVolume, deskFull, firstMet}
-use Rattle.definitions.specs.Gate.{Result, result, resultOf, turned, viewOf, unsound, refusal, perform, turnedOr, stepEvent}
+use Rattle.definitions.specs.Gate.{result, resultOf, viewOf, unsound, refusal, perform, stepEvent}
 
 -- the event is turned back with n, and the words are those that came
 abbrev pub TurnedBack : List ℕ → Event → ℕ → Type 0

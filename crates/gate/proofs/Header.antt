@@ -1,12 +1,12 @@
 -- A word of the header stored in place, and the session change by its two loops.
 -- Assumes nothing.
-use mathlib.Core.Bool.{Bool, true, false, cond}
+use mathlib.Core.Bool.{Bool, true, cond}
 use mathlib.Core.List.{List, [], _∷_}
 use mathlib.Core.Path.{_≡_, refl, ap, sym, _∙_}
 use Prim.Native.Nat.{ℕ, _+_, _≤_, _<_}
 use native.Mathlib.Nat.{le-refl}
 use native.Mathlib.Omega.{arith}
-use lib.Dec.{eqb, lit≤, lit<}
+use lib.Dec.{lit≤, lit<}
 use lib.ListN.{length, getD, set}
 use lib.Seq.{set-split}
 use borrow.Author.Tests.{eq-eqb, ne-eqb}
@@ -18,7 +18,7 @@ use Rattle.definitions.specs.declared.Answer.the-variants as answer
 use Rattle.definitions.specs.Lists.{each, put}
 use Rattle.definitions.specs.State.{headerOf, securityAt, deskAt, putSecurity, putDesk, stateSize, stateFits, securityPlace, deskPlace}
 use Rattle.definitions.specs.Desks.{swept}
-use Rattle.definitions.specs.Gate.{Result, result, resultOf, withoutProjected, clearProjectedAt, sweepDeskAt, sessionMarket, afterSession, afterClock, perform}
+use Rattle.definitions.specs.Gate.{result, resultOf, withoutProjected, clearProjectedAt, sweepDeskAt, sessionMarket, afterSession, afterClock, perform}
 use Rattle.definitions.proofs.Lists.{each-next}
 use Rattle.definitions.proofs.State.{Sized}
 use Rattle.definitions.proofs.HeaderWords as words

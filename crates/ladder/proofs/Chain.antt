@@ -2,15 +2,15 @@
 -- Assumes nothing.
 use mathlib.Core.Bool.{Bool, true, false, _&&_, cond}
 use mathlib.Core.List.{List, [], _∷_}
-use mathlib.Core.Path.{_≡_, refl, ap, sym, subst, _∙_}
-use Prim.Native.Nat.{ℕ, zero, suc, _+_, _-_, _*_, _/_, _%_, _≤_, _<_}
+use mathlib.Core.Path.{_≡_, refl}
+use Prim.Native.Nat.{ℕ, zero, suc, _≤_, _<_}
 use native.Mathlib.Nat.{le-refl, le-of-suc-le-suc, not-suc-le-zero}
 use native.Mathlib.Omega.{arith}
 use lib.Dec.{T, leb, ltb, eqb, ltb→lt, eqb→eq}
 use lib.ListN.{length, getD, drop}
 use borrow.Author.Tests.{leb-true, leb-false, le-leb, lt-leb}
 use Rattle.ladder.specs.declared.Band.{Band}
-use Rattle.ladder.specs.Ladder.{lastBand, onStep, positionIn, priceIn}
+use Rattle.ladder.specs.Ladder.{lastBand, positionIn, priceIn}
 use Rattle.ladder.proofs.Step as step
 
 -- b has a step, and c begins after b, at the price that b's steps reach

@@ -1,7 +1,7 @@
 -- Laws of one band: prices and positions by its step.
 -- Assumes nothing.
 use mathlib.Core.Bool.{true}
-use mathlib.Core.Path.{_≡_, refl, ap, sym, _∙_}
+use mathlib.Core.Path.{_≡_, ap, _∙_}
 use Prim.Native.Nat.{ℕ, _+_, _-_, _*_, _/_, _%_, _≤_, _<_}
 use native.Mathlib.Nat.{mul-comm, mul-lt-mul-of-pos-left, div-lt-iff-lt-mul, mul-div-cancel-left, mul-mod-right, div-add-mod}
 use native.Mathlib.Omega.{arith}

@@ -11,7 +11,7 @@ use Rattle.definitions.specs.declared.Event.{Event}
 use Rattle.definitions.specs.declared.Event.the-variants as event
 use Rattle.definitions.specs.State.{headerOf}
 use Rattle.definitions.specs.Refusals as refusals
-use Rattle.definitions.specs.Gate.{viewOf, unsound}
+use Rattle.definitions.specs.Gate.{unsound}
 use Rattle.gate.proofs.Fits.{fits-header}
 use Rattle.gate.proofs.Exits as exits
 use Rattle.gate.proofs.Header.{clock-done}

@@ -7,7 +7,7 @@ use lib.Dec.{eqb}
 use borrow.Author.Needs.{needs}
 use borrow.Author.Tests.{not-true, not-false}
 use Rattle.definitions.specs.Lists.{count}
-use Rattle.definitions.specs.Desks.{live, takesRow}
+use Rattle.definitions.specs.Desks.{live}
 use Rattle.gate.proofs.order.full.Statement.{statement}
 use Rattle.gate.proofs.order.full.Tie as tie
 

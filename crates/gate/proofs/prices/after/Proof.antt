@@ -1,10 +1,8 @@
 -- `gate::prices::after` meets its contract: the board that is named takes the prices, the other stays.
 -- Assumes nothing.
-use mathlib.Core.Bool.{Bool, cond}
-use mathlib.Core.Path.{ap, sym, _∙_}
 use borrow.Author.Needs.{needs}
 use borrow.Author.Tests.{eq-eqb, ne-eqb}
-use Rattle.definitions.specs.Gate.{afterPrices, withBoards}
+use Rattle.definitions.specs.Gate.{afterPrices}
 use Rattle.gate.proofs.prices.after.Statement.{statement}
 use Rattle.gate.proofs.prices.after.Tie as tie
 

@@ -1,18 +1,16 @@
 -- `gate::prices::handle` meets its contract: each exit is the first condition that is met, in the table's order, or what the event does.
 -- Assumes nothing.
-use mathlib.Core.Bool.{Bool, true, false, not, _||_}
+use mathlib.Core.Bool.{true, false, not}
 use mathlib.Core.List.{List}
 use mathlib.Core.Path.{_≡_, refl, ap, sym, _∙_}
 use Prim.Native.Nat.{ℕ, _<_}
-use lib.Dec.{leb, ltb}
 use borrow.Author.Needs.{needs}
-use borrow.Author.Tests.{not-true, not-false, leb-false, le-leb, lt-leb, lt-ltb, le-ltb}
+use borrow.Author.Tests.{leb-false, le-leb, lt-leb, lt-ltb, le-ltb}
 use Rattle.definitions.specs.declared.Event.{Event}
 use Rattle.definitions.specs.declared.Event.the-variants as event
 use Rattle.definitions.specs.State.{headerOf}
-use Rattle.definitions.specs.Sound.{priceOrAbsent}
 use Rattle.definitions.specs.Refusals as refusals
-use Rattle.definitions.specs.Gate.{viewOf, unsound}
+use Rattle.definitions.specs.Gate.{viewOf}
 use Rattle.gate.proofs.Fits.{fits-header, fits-security}
 use Rattle.gate.proofs.Exits as exits
 use Rattle.gate.proofs.Conditions as seen

@@ -1,6 +1,6 @@
 -- `gate::session::handle` meets its contract: each exit is the first condition that is met, in the table's order, or the session change.
 -- Assumes nothing.
-use mathlib.Core.Bool.{Bool, true, false, not}
+use mathlib.Core.Bool.{false, not}
 use mathlib.Core.List.{List}
 use mathlib.Core.Path.{_≡_, refl, ap, sym, _∙_}
 use Prim.Native.Nat.{ℕ}

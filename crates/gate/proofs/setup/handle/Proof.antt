@@ -4,15 +4,15 @@ use mathlib.Core.Bool.{Bool, true, false, not, _||_}
 use mathlib.Core.List.{List}
 use mathlib.Core.Path.{_≡_, refl, ap, sym, _∙_}
 use Prim.Native.Nat.{ℕ, _<_}
-use lib.Dec.{leb, ltb}
+use lib.Dec.{ltb}
 use borrow.Author.Needs.{needs}
-use borrow.Author.Tests.{not-true, not-false, leb-false, le-leb, lt-leb, lt-ltb, le-ltb}
+use borrow.Author.Tests.{leb-false, le-leb, lt-leb, lt-ltb, le-ltb}
 use Rattle.definitions.specs.declared.Event.{Event}
 use Rattle.definitions.specs.declared.Event.the-variants as event
 use Rattle.definitions.specs.State.{headerOf}
 use Rattle.definitions.specs.Sound.{priceOrAbsent}
 use Rattle.definitions.specs.Refusals as refusals
-use Rattle.definitions.specs.Gate.{viewOf, unsound}
+use Rattle.definitions.specs.Gate.{viewOf}
 use Rattle.gate.proofs.Fits.{fits-header, fits-security}
 use Rattle.gate.proofs.Exits as exits
 use Rattle.gate.proofs.Conditions as seen
