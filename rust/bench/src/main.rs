@@ -30,12 +30,20 @@ fn main() -> ExitCode {
     if cfg!(debug_assertions) {
         eprintln!("built without optimization: use cargo run --release");
     }
+    let asked: Vec<String> = std::env::args().skip(1).collect();
+    if let Some(unknown) = asked.iter().find(|&name| !is_mixture(name)) {
+        eprintln!("no mixture is called {unknown}\nusage: bench [MIXTURE ..]");
+        return ExitCode::FAILURE;
+    }
     println!("{MEASURED}Repeats: {REPEATS}\n");
     println!(
         "{:<14}{:>10}{:>12}{:>10}{:>12}{:>12}{:>8}",
         "mixture", "customers", "securities", "events", "gate ns", "second ns", "ratio"
     );
     for mixture in Mixture::ALL {
+        if !asked.is_empty() && !asked.iter().any(|name| name == mixture.name()) {
+            continue;
+        }
         for customers in CUSTOMERS {
             for securities in SECURITIES {
                 if !line(mixture, customers, securities) {
@@ -46,6 +54,10 @@ fn main() -> ExitCode {
         }
     }
     ExitCode::SUCCESS
+}
+
+fn is_mixture(name: &str) -> bool {
+    Mixture::ALL.iter().any(|mixture| mixture.name() == name)
 }
 
 fn line(mixture: Mixture, customers: u32, securities: u32) -> bool {
