@@ -20,11 +20,11 @@ use Rattle.definitions.specs.declared.Event.the-variants as event
 use Rattle.definitions.specs.declared.Answer.the-variants as answer
 use Rattle.definitions.specs.Lists.{any, count}
 use Rattle.definitions.specs.State.{headerOf, securityAt, deskAt, putSecurity, putDesk}
-use Rattle.definitions.specs.Sound.{soundSecurity, soundDesk}
+use Rattle.definitions.specs.Sound.{soundSecurity}
 use Rattle.definitions.specs.Desks.{live, openWith, takesRow, ordered, cancelled, matched}
 use Rattle.definitions.specs.Rules.{verdictOf}
 use Rattle.definitions.specs.Refusals.{names, liveWith, openBelow, numberTaken, noOpenRow, matchVolume, deskFull}
-use Rattle.definitions.specs.Gate.{result, resultOf, viewOf, unsound, perform, afterSetup, afterPrices}
+use Rattle.definitions.specs.Gate.{result, resultOf, viewOf, soundDeskAt, unsound, perform, afterSetup, afterPrices}
 
 pub or-left : (a b : Bool) → (a || b) ≡ false → a ≡ false
 or-left true b e = e
@@ -39,14 +39,6 @@ module _ (w : List ℕ) where
   named e t eh n = subst (λ (x : Header). names x e ≡ t) eh n
 
   module _ (k : ℕ) (o : Order) {h : Header} {s : Security} {d : Desk} (eh : h ≡ headerOf w) (es : s ≡ securityAt w (o .security)) (ed : d ≡ deskAt w k) where
-    order-sound : (a b t : Bool) → a ≡ soundSecurity s → b ≡ soundDesk (h .securities) (h .clock) d → not (a && b) ≡ t → unsound w (event.Order k o) ≡ t
-    unfolding unsound
-    order-sound a b t ea eb e =
-        ap₂ (λ (x y : Bool). not (x && y))
-        (sym (ea ∙ ap soundSecurity es))
-        (sym (eb ∙ ap₂ (λ (x : Header) (y : Desk). soundDesk (x .securities) (x .clock) y) eh ed))
-        ∙ e
-
     pub order-taken : {t : Bool} (b : Bool) → t ≡ any (liveWith (h .clock) (o .number)) (d .rows) → t ≡ b → numberTaken (viewOf w (event.Order k o)) (event.Order k o) ≡ b
     unfolding numberTaken viewOf
     order-taken b et e = sym (ap₂ (λ (x : Header) (y : Desk). any (liveWith (x .clock) (o .number)) (y .rows)) eh ed) ∙ sym et ∙ e
@@ -72,31 +64,30 @@ module _ (w : List ℕ) where
           ∙ ap (λ (y : Verdict). result (answer.Verdict y) (putDesk w k (ordered y (h .clock) o d))) order-verdict
           ∙ ap₂ (λ (x : Header) (y : Desk). result (answer.Verdict (verdictOf (headerOf w .session) (headerOf w .clock) (securityAt w (o .security)) (deskAt w k) o)) (putDesk w k (ordered (verdictOf (headerOf w .session) (headerOf w .clock) (securityAt w (o .security)) (deskAt w k) o) (x .clock) o y))) eh ed
 
-    pub order-security-unsound : {a : Bool} → a ≡ soundSecurity s → a ≡ false → unsound w (event.Order k o) ≡ true
+  module _ (k : ℕ) (o : Order) {s : Security} (es : s ≡ securityAt w (o .security)) where
+    order-sound : (a b t : Bool) → a ≡ soundSecurity s → b ≡ soundDeskAt w k → not (a && b) ≡ t → unsound w (event.Order k o) ≡ t
     unfolding unsound
-    order-security-unsound ea e =
-        ap (λ (x : Bool). not (x && soundDesk (headerOf w .securities) (headerOf w .clock) (deskAt w k))) (sym (ea ∙ ap soundSecurity es) ∙ e)
+    order-sound a b t ea eb e = ap₂ (λ (x y : Bool). not (x && y)) (sym (ea ∙ ap soundSecurity es)) (sym eb) ∙ e
 
-    pub order-desk-unsound : {a b : Bool} → a ≡ soundSecurity s → b ≡ soundDesk (h .securities) (h .clock) d → b ≡ false → unsound w (event.Order k o) ≡ true
+    pub order-security-unsound : {a : Bool} → a ≡ soundSecurity s → a ≡ false → unsound w (event.Order k o) ≡ true
+    order-security-unsound {a} ea e = order-sound a (soundDeskAt w k) true ea refl (ap (λ (x : Bool). not (x && soundDeskAt w k)) e)
+
+    pub order-desk-unsound : {a b : Bool} → a ≡ soundSecurity s → b ≡ soundDeskAt w k → b ≡ false → unsound w (event.Order k o) ≡ true
     order-desk-unsound {a} {b} ea eb e = order-sound a b true ea eb (ap (λ (x : Bool). not (a && x)) e ∙ ap not (and-false a))
 
-    pub order-all-sound : {a b : Bool} → a ≡ soundSecurity s → b ≡ soundDesk (h .securities) (h .clock) d → a ≡ true → b ≡ true → unsound w (event.Order k o) ≡ false
+    pub order-all-sound : {a b : Bool} → a ≡ soundSecurity s → b ≡ soundDeskAt w k → a ≡ true → b ≡ true → unsound w (event.Order k o) ≡ false
     order-all-sound {a} {b} ea eb at bt = order-sound a b false ea eb (ap₂ (λ (x y : Bool). not (x && y)) at bt)
 
-  -- a desk's soundness and open rows, as a cancel and a match report ask for them
+  pub cancel-sound : (k : ℕ) (x : Cancel) {a : Bool} (t : Bool) → a ≡ soundDeskAt w k → not a ≡ t → unsound w (event.Cancel k x) ≡ t
+  unfolding unsound
+  cancel-sound k x t ea e = ap not (sym ea) ∙ e
+
+  pub match-sound : (k : ℕ) (x : Match) {a : Bool} (t : Bool) → a ≡ soundDeskAt w k → not a ≡ t → unsound w (event.Match k x) ≡ t
+  unfolding unsound
+  match-sound k x t ea e = ap not (sym ea) ∙ e
+
+  -- a desk's open rows, as a cancel and a match report ask for them
   module _ (k : ℕ) {h : Header} {d : Desk} (eh : h ≡ headerOf w) (ed : d ≡ deskAt w k) where
-    desk-sound : {a : Bool} (t : Bool) → a ≡ soundDesk (h .securities) (h .clock) d → not a ≡ t → not (soundDesk (headerOf w .securities) (headerOf w .clock) (deskAt w k)) ≡ t
-    desk-sound t ea e =
-        ap not (sym (ea ∙ ap₂ (λ (x : Header) (y : Desk). soundDesk (x .securities) (x .clock) y) eh ed)) ∙ e
-
-    pub cancel-sound : (x : Cancel) {a : Bool} (t : Bool) → a ≡ soundDesk (h .securities) (h .clock) d → not a ≡ t → unsound w (event.Cancel k x) ≡ t
-    unfolding unsound
-    cancel-sound x t ea e = desk-sound t ea e
-
-    pub match-sound : (x : Match) {a : Bool} (t : Bool) → a ≡ soundDesk (h .securities) (h .clock) d → not a ≡ t → unsound w (event.Match k x) ≡ t
-    unfolding unsound
-    match-sound x t ea e = desk-sound t ea e
-
     pub cancel-open : (x : Cancel) {a : Bool} (t : Bool) → a ≡ any (openWith (x .number)) (d .rows) → not a ≡ t → noOpenRow (viewOf w (event.Cancel k x)) (event.Cancel k x) ≡ t
     unfolding noOpenRow viewOf
     cancel-open x t ea e = ap not (sym (ea ∙ ap (λ (y : Desk). any (openWith (x .number)) (y .rows)) ed)) ∙ e

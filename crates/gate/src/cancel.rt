@@ -18,10 +18,10 @@ pub fn handle(words: &mut [u32], k: u32, x: Cancel) -> Answer
     if x.number == 0 {
         return Answer::Refused(5);
     }
-    let d = records::desk_at(words, k);
-    if !records::sound_desk(h.securities, h.clock, d) {
+    if !records::sound_desk_at(words, k) {
         return Answer::Refused(8);
     }
+    let d = records::desk_at(words, k);
     if !desks::number_open(x.number, d) {
         return Answer::Refused(10);
     }

@@ -31,10 +31,10 @@ pub fn handle(words: &mut [u32], k: u32, o: Order) -> Answer
     if !records::sound_security(s) {
         return Answer::Refused(8);
     }
-    let d = records::desk_at(words, k);
-    if !records::sound_desk(h.securities, h.clock, d) {
+    if !records::sound_desk_at(words, k) {
         return Answer::Refused(8);
     }
+    let d = records::desk_at(words, k);
     if desks::number_live(h.clock, o.number, d) {
         return Answer::Refused(9);
     }

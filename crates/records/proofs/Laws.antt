@@ -53,7 +53,7 @@ put-put w at xs ys h =
     (simp (length-append, append-assoc, ← add-assoc))
 
 -- the rows of a desk, read one after the other
-rows-suc : (i : ℕ) (w : List ℕ) → rowsOf (suc i) w ≡ rowsOf i w ++ (rowOf (take rowSize (drop (9 * i) w)) ∷ [])
+pub rows-suc : (i : ℕ) (w : List ℕ) → rowsOf (suc i) w ≡ rowsOf i w ++ (rowOf (take rowSize (drop (9 * i) w)) ∷ [])
 unfolding rowsOf
 rows-suc zero w = refl
 rows-suc (suc i) w =

@@ -1,3 +1,3 @@
 pub mod Laws
-pub mod KeyLaws
+pub mod RowLaws
 pub mod StateLaws

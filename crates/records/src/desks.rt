@@ -8,7 +8,7 @@ use crate::words::desk_place;
 use definitions::Desk;
 use definitions::Row;
 
-fn row_of(words: &[u32]) -> Row
+pub fn row_of(words: &[u32]) -> Row
     requires { ⌜ length (now words) ≡ 9 ⌝ }
     ensures { λ r. ⌜ r ≡ rowOf (now (words .entry)) ⌝ }
 {

@@ -6,9 +6,8 @@ ghost use lib.ListN.{length, getD};
 ghost use Rattle.definitions.specs.Gate.{soundSecurityAt, soundDeskAt, allSound};
 ghost use Rattle.definitions.specs.Lists.{allBelow};
 ghost use Rattle.definitions.specs.State.{securityPlace, deskPlace, stateFits};
-use crate::desks::desk_at;
+use crate::rows::sound_desk_at;
 use crate::securities::security_at;
-use crate::sound::sound_desk;
 use crate::sound::sound_security;
 use crate::words::header_of;
 
@@ -29,11 +28,10 @@ fn desks_sound(words: &[u32], count: u32) -> bool
     requires { ⌜ deskPlace (getD (now words) 1 0) count ≤ length (now words) ⌝ }
     ensures { λ r. ⌜ r ≡ allBelow count (soundDeskAt (now (words .entry))) ⌝ }
 {
-    let h = header_of(words);
     let mut ok = true;
     let mut k = 0;
     while k < count {
-        ok = ok & sound_desk(h.securities, h.clock, desk_at(words, k));
+        ok = ok & sound_desk_at(words, k);
         k += 1;
     }
     ok

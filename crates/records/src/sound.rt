@@ -1,11 +1,7 @@
 // Paper 01: "A record is sound if: ..".
 ghost use mathlib.Core.Path.{_≡_};
-ghost use Rattle.definitions.specs.Sound.{priceOrAbsent, soundBoard, soundSecurity, allZero, pricedAs, openOrCancelled, soundMarked, soundRow, soundDesk};
-use crate::keys::key_of;
-use crate::keys::keys_differ;
-use crate::keys::keys_first;
+ghost use Rattle.definitions.specs.Sound.{priceOrAbsent, soundBoard, soundSecurity, pricedAs, openOrCancelled, soundMarked};
 use definitions::Board;
-use definitions::Desk;
 use definitions::Row;
 use definitions::Security;
 use ladder::Ladder;
@@ -39,20 +35,6 @@ pub fn sound_security(s: Security) -> bool
         & sound_board(foreign)
 }
 
-fn all_zero(r: Row) -> bool
-    ensures { λ t. ⌜ t ≡ allZero r ⌝ }
-{
-    (r.mark == 0)
-        & (r.number == 0)
-        & (r.security == 0)
-        & (r.board == 0)
-        & (r.side == 0)
-        & (r.ordtype == 0)
-        & (r.price == 0)
-        & (r.volume == 0)
-        & (r.cancel_time == 0)
-}
-
 pub fn priced_as(ordtype: u32, price: u32) -> bool
     ensures { λ r. ⌜ r ≡ pricedAs ordtype price ⌝ }
 {
@@ -66,7 +48,7 @@ fn open_or_cancelled(clock: u32, r: Row) -> bool
         | ((r.mark == 2) & (r.cancel_time <= clock) & (r.ordtype == 0))
 }
 
-fn sound_marked(securities: u32, clock: u32, r: Row) -> bool
+pub fn sound_marked(securities: u32, clock: u32, r: Row) -> bool
     ensures { λ t. ⌜ t ≡ soundMarked securities clock r ⌝ }
 {
     open_or_cancelled(clock, r)
@@ -78,29 +60,4 @@ fn sound_marked(securities: u32, clock: u32, r: Row) -> bool
         & priced_as(r.ordtype, r.price)
         & (1 <= r.volume)
         & (r.volume <= 20_000_000)
-}
-
-// A free row is asked to be all zero, a marked row the rest.
-fn sound_row(securities: u32, clock: u32, r: Row) -> bool
-    ensures { λ t. ⌜ t ≡ soundRow securities clock r ⌝ }
-{
-    if r.mark == 0 {
-        return all_zero(r);
-    }
-    sound_marked(securities, clock, r)
-}
-
-pub fn sound_desk(securities: u32, clock: u32, d: Desk) -> bool
-    ensures { λ r. ⌜ r ≡ soundDesk securities clock d ⌝ }
-{
-    let mut ok = true;
-    let mut keys = [0u64; 32];
-    let mut i = 0;
-    while i < 32 {
-        let row = d.rows[i];
-        ok = ok & sound_row(securities, clock, row);
-        keys[i] = key_of(row);
-        i += 1;
-    }
-    ok & keys_first(&keys) & keys_differ(&keys)
 }

@@ -34,13 +34,13 @@ abbrev start2 : tie.Else2 → tie.Start
 start2 c = start1 (else1 c)
 
 abbrev else2 : tie.Else3 → tie.Else2
-else2 c = c .before .before .before .before
+else2 c = c .before .before .before
 
 abbrev start3 : tie.Else3 → tie.Start
 start3 c = start2 (else2 c)
 
 abbrev else3 : tie.Else4 → tie.Else3
-else3 c = c .before .before
+else3 c = c .before .before .before .before
 
 -- what was tested on the way
 named : (c : tie.Else1) → refusals.names (headerOf (w (start1 c))) (e (start1 c)) ≡ false
@@ -65,7 +65,7 @@ on-time c = refl
 
 sound : (c : tie.Else3) → unsound (w (start3 c)) (e (start3 c)) ≡ false
 sound c =
-    seen.cancel-sound (w (start3 c)) (start3 c .args .k) (else1 (else2 c) .before .before .header-of .ensures) (c .before .before .desk-at .ensures) (start3 c .args .x) false (c .before .sound-desk .ensures) (c .if3 .left)
+    seen.cancel-sound (w (start3 c)) (start3 c .args .k) (start3 c .args .x) false (c .before .sound-desk-at .ensures) (c .if3 .left)
 
 -- condition 9 is for orders
 unused : (c : tie.Start) → refusals.numberTaken (viewOf (w c) (e c)) (e c) ≡ false
@@ -75,7 +75,7 @@ unused c = refl
 there : (c : tie.Else4) → refusals.noOpenRow (viewOf (w (start3 (else3 c))) (e (start3 (else3 c)))) (e (start3 (else3 c))) ≡ false
 there c =
     let c3 = else3 c in
-    seen.cancel-open (w (start3 c3)) (start3 c3 .args .k) (else1 (else2 c3) .before .before .header-of .ensures) (c3 .before .before .desk-at .ensures) (start3 c3 .args .x) false (c .before .number-open .ensures) (c .if4 .left)
+    seen.cancel-open (w (start3 c3)) (start3 c3 .args .k) (else1 (else2 c3) .before .before .header-of .ensures) (c .before .before .desk-at .ensures) (start3 c3 .args .x) false (c .before .number-open .ensures) (c .if4 .left)
 
 -- condition 12 is for orders
 room : (c : tie.Start) → refusals.deskFull (viewOf (w c) (e c)) (e c) ≡ false
@@ -102,22 +102,24 @@ returns-2 c =
     let c1 = c .before .before in
     exits.refused-5 (w (start1 c1)) (e (start1 c1)) (named c1) (eq-eqb _ 0 (c .if2 .taken))
 
-desk-at-requires : tie.Need-desk-at-requires
-desk-at-requires c κs =
+sound-desk-at-requires : tie.Need-sound-desk-at-requires
+sound-desk-at-requires c κs =
     let c2 = c .before in
     fits-desk (w (start2 c2)) (start2 c2 .pre) _ (below (else1 c2))
-
-sound-desk-requires : tie.Need-sound-desk-requires
-sound-desk-requires c κs = search needs
 
 same-length-3 : tie.Need-same-length-3
 same-length-3 c = search needs
 
 returns-3 : tie.Need-returns-3
 returns-3 c =
-    let c2 = c .before .before .before .before in
+    let c2 = c .before .before .before in
     exits.refused-8 (w (start2 c2)) (e (start2 c2)) (named (else1 c2)) (coded c2) (priced (start2 c2)) (on-time (start2 c2))
-    (seen.cancel-sound (w (start2 c2)) (start2 c2 .args .k) (else1 c2 .before .before .header-of .ensures) (c .before .before .desk-at .ensures) (start2 c2 .args .x) true (c .before .sound-desk .ensures) (c .if3 .taken))
+    (seen.cancel-sound (w (start2 c2)) (start2 c2 .args .k) (start2 c2 .args .x) true (c .before .sound-desk-at .ensures) (c .if3 .taken))
+
+desk-at-requires : tie.Need-desk-at-requires
+desk-at-requires c κs =
+    let c2 = else2 (c .before) in
+    fits-desk (w (start2 c2)) (start2 c2 .pre) _ (below (else1 c2))
 
 number-open-requires : tie.Need-number-open-requires
 number-open-requires c κs = search needs
@@ -127,9 +129,9 @@ same-length-4 c = search needs
 
 returns-4 : tie.Need-returns-4
 returns-4 c =
-    let c3 = c .before .before in
+    let c3 = c .before .before .before .before in
     exits.refused-10 (w (start3 c3)) (e (start3 c3)) (named (else1 (else2 c3))) (coded (else2 c3)) (priced (start3 c3)) (on-time (start3 c3)) (sound c3) (unused (start3 c3))
-    (seen.cancel-open (w (start3 c3)) (start3 c3 .args .k) (else1 (else2 c3) .before .before .header-of .ensures) (c3 .before .before .desk-at .ensures) (start3 c3 .args .x) true (c .before .number-open .ensures) (c .if4 .taken))
+    (seen.cancel-open (w (start3 c3)) (start3 c3 .args .k) (else1 (else2 c3) .before .before .header-of .ensures) (c .before .before .desk-at .ensures) (start3 c3 .args .x) true (c .before .number-open .ensures) (c .if4 .taken))
 
 -- condition 11 is for match reports
 enough : (c : tie.Start) → refusals.matchVolume (viewOf (w c) (e c)) (e c) ≡ false
@@ -151,7 +153,7 @@ returns-5 : tie.Need-returns-5
 returns-5 c =
     let c4 = c .before .before .before .before .before in
     let c3 = else3 c4 in
-    seen.cancel-done (w (start3 c3)) (start3 c3 .args .k) (else1 (else2 c3) .before .before .header-of .ensures) (c3 .before .before .desk-at .ensures) (start3 c3 .args .x) (c .before .before .before .cancelled .ensures) (c .before .before .put-desk .ensures)
+    seen.cancel-done (w (start3 c3)) (start3 c3 .args .k) (else1 (else2 c3) .before .before .header-of .ensures) (c4 .before .before .desk-at .ensures) (start3 c3 .args .x) (c .before .before .before .cancelled .ensures) (c .before .before .put-desk .ensures)
     ∙ exits.performed (w (start3 c3)) (e (start3 c3)) (named (else1 (else2 c3))) (coded (else2 c3)) (priced (start3 c3)) (on-time (start3 c3)) (sound c3) (unused (start3 c3)) (there c4) (enough (start3 c3)) (room (start3 c3))
 
 pub handle-spec : {M : Type 1} → statement M
@@ -163,10 +165,10 @@ handle-spec =
     returns
     same-length-2
     returns-2
-    desk-at-requires
-    sound-desk-requires
+    sound-desk-at-requires
     same-length-3
     returns-3
+    desk-at-requires
     number-open-requires
     same-length-4
     returns-4

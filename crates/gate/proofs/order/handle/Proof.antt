@@ -41,10 +41,10 @@ abbrev else3 : tie.Else4 → tie.Else3
 else3 c = c .before .before .before .before
 
 abbrev else4 : tie.Else5 → tie.Else4
-else4 c = c .before .before .before .before
+else4 c = c .before .before .before
 
 abbrev else5 : tie.Else6 → tie.Else5
-else5 c = c .before .before
+else5 c = c .before .before .before .before
 
 abbrev start5 : tie.Else5 → tie.Start
 start5 c = start3 (else3 (else4 c))
@@ -126,31 +126,33 @@ returns-4 : tie.Need-returns-4
 returns-4 c =
     let c3 = c .before .before .before .before in
     exits.refused-8 (w (start3 c3)) (e (start3 c3)) (named (else1 (else2 c3))) (coded (else2 c3)) (priced c3) (on-time (start3 c3))
-    (seen.order-security-unsound (w (start3 c3)) (start3 c3 .args .k) (start3 c3 .args .o) (else1 (else2 c3) .before .before .before .before .header-of .ensures) (c .before .before .security-at .ensures) refl (c .before .sound-security .ensures) (not-true _ (c .if4 .taken)))
+    (seen.order-security-unsound (w (start3 c3)) (start3 c3 .args .k) (start3 c3 .args .o) (c .before .before .security-at .ensures) (c .before .sound-security .ensures) (not-true _ (c .if4 .taken)))
 
-desk-at-requires : tie.Need-desk-at-requires
-desk-at-requires c κs =
+sound-desk-at-requires : tie.Need-sound-desk-at-requires
+sound-desk-at-requires c κs =
     let c3 = else3 (c .before) in
     fits-desk (w (start3 c3)) (start3 c3 .pre) _ (below (else1 (else2 c3)) .0)
-
-sound-desk-requires : tie.Need-sound-desk-requires
-sound-desk-requires c κs = search needs
 
 same-length-5 : tie.Need-same-length-5
 same-length-5 c = search needs
 
 returns-5 : tie.Need-returns-5
 returns-5 c =
-    let c4 = c .before .before .before .before in
+    let c4 = c .before .before .before in
     let c3 = else3 c4 in
     exits.refused-8 (w (start3 c3)) (e (start3 c3)) (named (else1 (else2 c3))) (coded (else2 c3)) (priced c3) (on-time (start3 c3))
-    (seen.order-desk-unsound (w (start3 c3)) (start3 c3 .args .k) (start3 c3 .args .o) (else1 (else2 c3) .before .before .before .before .header-of .ensures) (c4 .before .before .security-at .ensures) (c .before .before .desk-at .ensures) (c4 .before .sound-security .ensures) (c .before .sound-desk .ensures) (not-true _ (c .if5 .taken)))
+    (seen.order-desk-unsound (w (start3 c3)) (start3 c3 .args .k) (start3 c3 .args .o) (c4 .before .before .security-at .ensures) (c4 .before .sound-security .ensures) (c .before .sound-desk-at .ensures) (not-true _ (c .if5 .taken)))
 
 sound : (c : tie.Else5) → unsound (w (start5 c)) (e (start5 c)) ≡ false
 sound c =
     let c4 = else4 c in
     let c3 = else3 c4 in
-    seen.order-all-sound (w (start3 c3)) (start3 c3 .args .k) (start3 c3 .args .o) (else1 (else2 c3) .before .before .before .before .header-of .ensures) (c4 .before .before .security-at .ensures) (c .before .before .desk-at .ensures) (c4 .before .sound-security .ensures) (c .before .sound-desk .ensures) (not-false _ (c4 .if4 .left)) (not-false _ (c .if5 .left))
+    seen.order-all-sound (w (start3 c3)) (start3 c3 .args .k) (start3 c3 .args .o) (c4 .before .before .security-at .ensures) (c4 .before .sound-security .ensures) (c .before .sound-desk-at .ensures) (not-false _ (c4 .if4 .left)) (not-false _ (c .if5 .left))
+
+desk-at-requires : tie.Need-desk-at-requires
+desk-at-requires c κs =
+    let c3 = else3 (else4 (c .before)) in
+    fits-desk (w (start3 c3)) (start3 c3 .pre) _ (below (else1 (else2 c3)) .0)
 
 number-live-requires : tie.Need-number-live-requires
 number-live-requires c κs = search needs
@@ -160,18 +162,18 @@ same-length-6 c = search needs
 
 returns-6 : tie.Need-returns-6
 returns-6 c =
-    let c5 = c .before .before in
+    let c5 = c .before .before .before .before in
     let c4 = else4 c5 in
     let c3 = else3 c4 in
     exits.refused-9 (w (start3 c3)) (e (start3 c3)) (named (else1 (else2 c3))) (coded (else2 c3)) (priced c3) (on-time (start3 c3)) (sound c5)
-    (seen.order-taken (w (start3 c3)) (start3 c3 .args .k) (start3 c3 .args .o) (else1 (else2 c3) .before .before .before .before .header-of .ensures) (c4 .before .before .security-at .ensures) (c5 .before .before .desk-at .ensures) true (c .before .number-live .ensures) (c .if6 .taken))
+    (seen.order-taken (w (start3 c3)) (start3 c3 .args .k) (start3 c3 .args .o) (else1 (else2 c3) .before .before .before .before .header-of .ensures) (c4 .before .before .security-at .ensures) (c .before .before .desk-at .ensures) true (c .before .number-live .ensures) (c .if6 .taken))
 
 unused : (c : tie.Else6) → refusals.numberTaken (viewOf (w (start5 (else5 c))) (e (start5 (else5 c)))) (e (start5 (else5 c))) ≡ false
 unused c =
     let c5 = else5 c in
     let c4 = else4 c5 in
     let c3 = else3 c4 in
-    seen.order-taken (w (start3 c3)) (start3 c3 .args .k) (start3 c3 .args .o) (else1 (else2 c3) .before .before .before .before .header-of .ensures) (c4 .before .before .security-at .ensures) (c5 .before .before .desk-at .ensures) false (c .before .number-live .ensures) (c .if6 .left)
+    seen.order-taken (w (start3 c3)) (start3 c3 .args .k) (start3 c3 .args .o) (else1 (else2 c3) .before .before .before .before .header-of .ensures) (c4 .before .before .security-at .ensures) (c .before .before .desk-at .ensures) false (c .before .number-live .ensures) (c .if6 .left)
 
 -- conditions 10 and 11 are for cancels and match reports
 there : (c : tie.Start) → refusals.noOpenRow (viewOf (w c) (e c)) (e c) ≡ false
@@ -198,7 +200,7 @@ returns-7 c =
     let c4 = else4 c5 in
     let c3 = else3 c4 in
     exits.refused-12 (w (start3 c3)) (e (start3 c3)) (named (else1 (else2 c3))) (coded (else2 c3)) (priced c3) (on-time (start3 c3)) (sound c5) (unused c6) (there (start3 c3)) (enough (start3 c3))
-    (seen.order-full (w (start3 c3)) (start3 c3 .args .k) (start3 c3 .args .o) (else1 (else2 c3) .before .before .before .before .header-of .ensures) (c4 .before .before .security-at .ensures) (c5 .before .before .desk-at .ensures) (c .before .before .verdict .ensures) true (c .before .full .ensures) (c .if7 .taken))
+    (seen.order-full (w (start3 c3)) (start3 c3 .args .k) (start3 c3 .args .o) (else1 (else2 c3) .before .before .before .before .header-of .ensures) (c4 .before .before .security-at .ensures) (c6 .before .before .desk-at .ensures) (c .before .before .verdict .ensures) true (c .before .full .ensures) (c .if7 .taken))
 
 ordered-requires : tie.Need-ordered-requires
 ordered-requires c κs = search needs
@@ -220,7 +222,7 @@ returns-8 c =
     let c3 = else3 c4 in
     let eh = else1 (else2 c3) .before .before .before .before .header-of .ensures in
     let es = c4 .before .before .security-at .ensures in
-    let ed = c5 .before .before .desk-at .ensures in
+    let ed = c6 .before .before .desk-at .ensures in
     let ev = c7 .before .before .verdict .ensures in
     seen.order-done (w (start3 c3)) (start3 c3 .args .k) (start3 c3 .args .o) eh es ed ev (c .before .before .before .ordered .ensures) (c .before .before .put-desk .ensures)
     ∙ exits.performed (w (start3 c3)) (e (start3 c3)) (named (else1 (else2 c3))) (coded (else2 c3)) (priced c3) (on-time (start3 c3)) (sound c5) (unused c6) (there (start3 c3)) (enough (start3 c3))
@@ -243,10 +245,10 @@ handle-spec =
     sound-security-requires
     same-length-4
     returns-4
-    desk-at-requires
-    sound-desk-requires
+    sound-desk-at-requires
     same-length-5
     returns-5
+    desk-at-requires
     number-live-requires
     same-length-6
     returns-6

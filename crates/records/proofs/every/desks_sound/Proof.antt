@@ -1,6 +1,5 @@
 -- `records::every::desks_sound` meets its contract: each turn tests the next desk.
 -- Assumes nothing.
-use mathlib.Core.Path.{_∙_}
 use Prim.Native.Nat.{_-_}
 use native.Mathlib.Omega.{arith}
 use Rattle.definitions.specs.Gate.{soundDeskAt}
@@ -10,22 +9,16 @@ use Rattle.records.proofs.every.desks_sound.Statement.{statement}
 use Rattle.records.proofs.every.desks_sound.Tie as tie
 
 abbrev Inv-loop : tie.InvT-loop
-Inv-loop words count h ok₀ k₀ ok k = Below (soundDeskAt words) count ok k
+Inv-loop words count ok₀ k₀ ok k = Below (soundDeskAt words) count ok k
 
 abbrev μ-loop : tie.MeasureT-loop
-μ-loop words count h ok₀ k₀ ok k = count - k
-
-header-of-requires : tie.Need-header-of-requires Inv-loop μ-loop
-header-of-requires c κs = search needs
+μ-loop words count ok₀ k₀ ok k = count - k
 
 loop-holds : tie.Need-loop-holds Inv-loop μ-loop
 loop-holds c = below-none
 
-desk-at-requires : tie.Need-desk-at-requires Inv-loop μ-loop
-desk-at-requires c κs = search needs
-
-sound-desk-requires : tie.Need-sound-desk-requires Inv-loop μ-loop
-sound-desk-requires c κs = search needs
+sound-desk-at-requires : tie.Need-sound-desk-at-requires Inv-loop μ-loop
+sound-desk-at-requires c κs = search needs
 
 add-k : tie.Need-add-k Inv-loop μ-loop
 add-k c = search needs
@@ -34,24 +27,11 @@ loop-less : tie.Need-loop-less Inv-loop μ-loop
 loop-less c = omega arith
 
 loop-again : tie.Need-loop-again Inv-loop μ-loop
-loop-again c =
-    below-next (c .before .before .loop-test .taken) (c .before .before .before .loop .inv)
-    (c .sound-desk .ensures ∙ rw (c .before .desk-at .ensures, c .before .before .before .before .header-of .ensures))
+loop-again c = below-next (c .before .loop-test .taken) (c .before .before .loop .inv) (c .sound-desk-at .ensures)
 
 returns : tie.Need-returns Inv-loop μ-loop
 returns c = below-end (c .loop-test .left) (c .before .loop .inv)
 
 pub desks-sound-spec : {M : Type 1} → statement M
 desks-sound-spec =
-    tie.close
-    (tie.spec
-    Inv-loop
-    μ-loop
-    header-of-requires
-    loop-holds
-    desk-at-requires
-    sound-desk-requires
-    add-k
-    loop-less
-    loop-again
-    returns)
+    tie.close (tie.spec Inv-loop μ-loop loop-holds sound-desk-at-requires add-k loop-less loop-again returns)
