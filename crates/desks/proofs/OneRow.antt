@@ -1,13 +1,14 @@
 -- The laws of one row: what becomes of it at each exit of the code.
 -- Assumes nothing.
-use mathlib.Core.Bool.{Bool, true, false, cond, _&&_, not}
+use mathlib.Core.Bool.{Bool, true, false, cond, _&&_, not, and-true, and-false}
 use mathlib.Core.Path.{_≡_, refl, ap, sym, _∙_}
 use Prim.Native.Nat.{ℕ, _+_, _-_, _≤_, _<_}
-use lib.Dec.{leb, eqb}
+use lib.Dec.{leb, ltb, eqb}
 use borrow.Author.Tests.{eq-eqb, ne-eqb, le-leb, lt-leb, not-true, not-false}
 use Rattle.definitions.specs.declared.Row.{Row}
-use Rattle.definitions.specs.Codes.{cancelledMark, limit, remembered}
-use Rattle.definitions.specs.Desks.{freeRow, openWith, sweptRow, expiredRow, markedCancelled, cancelledRow, withVolume, matchedRow}
+use Rattle.definitions.specs.Codes.{openMark, cancelledMark, limit, remembered}
+use Rattle.definitions.specs.Desks.{freeRow, live, openWith, sweptRow, expiredRow, markedCancelled, cancelledRow, withVolume, matchedRow}
+use Rattle.definitions.specs.Refusals.{liveWith, openBelow}
 
 module _ (r : Row) where
   pub swept-stays : r .ordtype ≡ limit → r ≡ sweptRow r
@@ -15,6 +16,22 @@ module _ (r : Row) where
 
   pub swept-goes : (r .ordtype ≡ limit → ⊥) → freeRow ≡ sweptRow r
   swept-goes t = rw (ne-eqb (r .ordtype) limit t)
+
+-- the code asks for the number first, and the definition last
+module _ (number : ℕ) (r : Row) where
+  module _ (h : r .number ≡ number) where
+    pub open-named : eqb (r .mark) openMark ≡ openWith number r
+    open-named = rw (eq-eqb (r .number) number h, and-true (eqb (r .mark) openMark))
+
+    pub live-named : (clock : ℕ) {t : Bool} → t ≡ live clock r → t ≡ liveWith clock number r
+    live-named clock e = rw (eq-eqb (r .number) number h, and-true (live clock r)) e
+
+  module _ (h : r .number ≡ number → ⊥) where
+    pub open-other : eqb (r .number) number ≡ openWith number r
+    open-other = rw (ne-eqb (r .number) number h, and-false (eqb (r .mark) openMark))
+
+    pub live-other : (clock : ℕ) → eqb (r .number) number ≡ liveWith clock number r
+    live-other clock = rw (ne-eqb (r .number) number h, and-false (live clock r))
 
 -- the definition asks for the mark twice
 expired-once : (t near : Bool) → (t && not near) ≡ (t && not (t && near))
@@ -33,6 +50,13 @@ module _ (number : ℕ) (r : Row) {named : Bool} (e : named ≡ openWith number 
 
   same : not named ≡ false → openWith number r ≡ true
   same t = sym e ∙ not-false named t
+
+  module _ (volume : ℕ) where
+    pub below-open : named ≡ true → ltb (r .volume) volume ≡ openBelow number volume r
+    below-open t = rw (sym e ∙ t)
+
+    pub below-other : named ≡ false → named ≡ openBelow number volume r
+    below-other t = rw (sym e ∙ t) t
 
   module _ (clock : ℕ) where
     pub cancelled-other : not named ≡ true → r ≡ cancelledRow number clock r

@@ -3,13 +3,13 @@
 use mathlib.Core.Bool.{Bool, true, false, cond, _&&_, and-eq-true-iff}
 use mathlib.Core.List.{_∷_}
 use mathlib.Core.Logic.{⊎-elim}
-use mathlib.Core.Path.{_≡_, refl, ap, subst, _∙_}
+use mathlib.Core.Path.{_≡_, refl, ap, subst, sym, _∙_}
 use Prim.Native.Nat.{ℕ, _+_, _-_, _*_, _≤_, _<_}
-use native.Mathlib.Nat.{eq-or-lt-of-le}
+use native.Mathlib.Nat.{eq-or-lt-of-le, mod-one}
 use native.Mathlib.Omega.{arith}
 use lib.Dec.{leb, lit≤}
 use lib.ListN.{length, getD, drop}
-use borrow.Author.Tests.{leb-true, le-leb, lt-leb}
+use borrow.Author.Tests.{leb-true, le-leb, lt-leb, eq-eqb}
 use Rattle.ladder.specs.declared.Band.{Band}
 use Rattle.ladder.specs.declared.Position.the-variants.{At, Off}
 use Rattle.ladder.specs.Bands.{lowest, higher, firstPrice, lastPrice, positions}
@@ -46,15 +46,23 @@ pub legal-above : (p : ℕ) → firstPrice ≤ p → lastPrice < p → legal p �
 unfolding legal
 legal-above p low h = rw (le-leb firstPrice p low, lt-leb p lastPrice h)
 
-pub legal-within : (p : ℕ) {b : Band} → b ≡ bandOfPrice p → firstPrice ≤ p → p ≤ lastPrice → onStep b p ≡ legal p
+pub legal-within : (p : ℕ) → firstPrice ≤ p → p ≤ lastPrice → onStep (bandOfPrice p) p ≡ legal p
 unfolding legal
-legal-within p e low high = rw (le-leb firstPrice p low, le-leb p lastPrice high, e)
+legal-within p low high = rw (le-leb firstPrice p low, le-leb p lastPrice high)
 
 -- the band of a price is the i-th of the table if that begins at the price or below, and the next above it
 pub band-is : (p i : ℕ) → i ≤ length higher → begun (λ b. b .from) p (lowest ∷ higher) i lowest → ended (λ b. b .from) p (drop i higher)
     → bandOfPrice p ≡ getD (lowest ∷ higher) i lowest
 unfolding bandOfPrice
 band-is p i = chain.stops-at (λ b. b .from) chain.from-grows p lowest chained i
+
+pub on-step-is : (p i : ℕ) → i ≤ length higher → begun (λ b. b .from) p (lowest ∷ higher) i lowest → ended (λ b. b .from) p (drop i higher)
+    → onStep (getD (lowest ∷ higher) i lowest) p ≡ onStep (bandOfPrice p) p
+on-step-is p i there from below = ap (λ b. onStep b p) (sym (band-is p i there from below))
+
+-- the lowest band's step is 1, and any number is on it
+pub lowest-on-step : (p : ℕ) → p < 200 → true ≡ onStep (bandOfPrice p) p
+lowest-on-step p below = sym (eq-eqb _ 0 (mod-one (p - 1))) ∙ on-step-is p 0 (lit≤ tt) tt (omega arith)
 
 -- the band of a price begins at it or below, and has a step
 pub band-from : (p : ℕ) → firstPrice ≤ p → bandOfPrice p .from ≤ p

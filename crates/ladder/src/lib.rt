@@ -1,7 +1,7 @@
 // Paper 01, "Prices and the ladder": which prices are legal, and at which position each stands.
 ghost use mathlib.Core.Path.{_≡_};
 ghost use Prim.Native.Nat.{_≤_};
-ghost use Rattle.ladder.specs.Ladder.{bandOfPrice, legal, positionOf, priceAt};
+ghost use Rattle.ladder.specs.Ladder.{bandOfPrice, legal, onStep, positionOf, priceAt};
 
 mod prices;
 
@@ -37,8 +37,7 @@ impl Ladder {
         if Ladder::LAST_PRICE < price {
             return false;
         }
-        let band = band_of(price);
-        (price - band.from) % band.step == 0
+        on_step(price)
     }
 
     pub fn position(price: u32) -> Position
@@ -74,6 +73,34 @@ fn tabled(position: u32) -> u32
     ensures { λ r. ⌜ r ≡ priceAt position ⌝ }
 {
     PRICES[(position - 1) as usize]
+}
+
+// Each step is a literal, since a remainder by a number that is known only at run time costs a division.
+fn on_step(price: u32) -> bool
+    ensures { λ r. ⌜ r ≡ onStep (bandOfPrice price) price ⌝ }
+{
+    if 40_000 <= price {
+        return (price - 40_000) % 200 == 0;
+    }
+    if 20_000 <= price {
+        return (price - 20_000) % 100 == 0;
+    }
+    if 10_000 <= price {
+        return (price - 10_000) % 50 == 0;
+    }
+    if 2_500 <= price {
+        return (price - 2_500) % 25 == 0;
+    }
+    if 1_000 <= price {
+        return (price - 1_000) % 10 == 0;
+    }
+    if 500 <= price {
+        return (price - 500) % 5 == 0;
+    }
+    if 200 <= price {
+        return (price - 200) % 2 == 0;
+    }
+    true
 }
 
 fn band_of(price: u32) -> Band

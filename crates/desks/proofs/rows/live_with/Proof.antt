@@ -1,6 +1,7 @@
--- `desks::rows::live_with` meets its contract: it is `live` and the number.
+-- `desks::rows::live_with` meets its contract: a row with the number is asked whether it is live, and any other is none.
 -- Assumes nothing.
 use borrow.Author.Needs.{needs}
+use Rattle.desks.proofs.OneRow.{live-named, live-other}
 use Rattle.desks.proofs.rows.live_with.Statement.{statement}
 use Rattle.desks.proofs.rows.live_with.Tie as tie
 
@@ -8,7 +9,14 @@ is-live-requires : tie.Need-is-live-requires
 is-live-requires c κs = search needs
 
 returns : tie.Need-returns
-returns c = rw (c .before .is-live .ensures)
+returns c =
+    let a = c .before .before .before .args in
+    live-named (a .number) (a .r) (c .before .if1 .taken) (a .clock) (c .is-live .ensures)
+
+returns-2 : tie.Need-returns-2
+returns-2 c =
+    let a = c .before .before .args in
+    live-other (a .number) (a .r) (c .if1 .left) (a .clock)
 
 pub live-with-spec : {M : Type 1} → statement M
-live-with-spec = tie.close (tie.spec is-live-requires returns)
+live-with-spec = tie.close (tie.spec is-live-requires returns returns-2)
