@@ -17,10 +17,10 @@ abbrev Of : (ℕ → ℕ → Security → Desk → Order → Type 0) → tie.Sta
 Of P c = P (c .args .session) (c .args .clock) (c .args .s) (c .args .d) (c .args .o)
 
 past-s : (c : tie.Else1) → Of PastS (c .before .before)
-past-s c = known (c .before .rule-s .ensures) (c .if1 .left)
+past-s c = search known
 
 past-v : (c : tie.Else2) → Of PastV (c .before .before .before .before)
-past-v c = (past-s (c .before .before), known (c .before .rule-v .ensures) (c .if2 .left))
+past-v c = (past-s (c .before .before), search known)
 
 past-q : (c : tie.Else3) → Of PastQ (c .before .before .before .before .before .before)
 past-q c = (past-v (c .before .before), known (c .before .rule-q .ensures) (c .if3 .left))
@@ -53,13 +53,13 @@ rule-s-requires : tie.Need-rule-s-requires
 rule-s-requires c κs = tt
 
 returns : tie.Need-returns
-returns c = sym (first-s _ _ _ _ _ (known (c .before .rule-s .ensures) (c .if1 .taken)))
+returns c = sym (first-s _ _ _ _ _ (search known))
 
 rule-v-requires : tie.Need-rule-v-requires
 rule-v-requires c κs = tt
 
 returns-2 : tie.Need-returns-2
-returns-2 c = sym (first-v _ _ _ _ _ (past-s (c .before .before)) (known (c .before .rule-v .ensures) (c .if2 .taken)))
+returns-2 c = sym (first-v _ _ _ _ _ (past-s (c .before .before)) (search known))
 
 rule-q-requires : tie.Need-rule-q-requires
 rule-q-requires c κs = tt

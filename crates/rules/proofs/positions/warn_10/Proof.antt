@@ -40,7 +40,7 @@ concerned c = passed (c .before .concerns-10 .ensures) (c .if1 .left)
 returns-2 : tie.Need-returns-2
 unfolding warn10
 returns-2 c =
-    rw (
+    simp (
       concerned (c .before .before .before .before .before .before),
       c .ten-apart .ensures,
       c .before .position-number2 .ensures,
