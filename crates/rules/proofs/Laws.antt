@@ -5,6 +5,7 @@ use mathlib.Core.List.{List, map}
 use mathlib.Core.Path.{_≡_, refl, sym, _∙_}
 use Prim.Native.Nat.{ℕ, _<_, _≤_, _+_}
 use native.Mathlib.Omega.{arith}
+use lib.Dec.{eqb}
 use lib.ListN.{length, getD, drop, length-map}
 use borrow.Author.Tests.{not-true, not-false}
 use Rattle.definitions.specs.declared.Security.{Security}
@@ -12,10 +13,11 @@ use Rattle.definitions.specs.declared.Row.{Row}
 use Rattle.definitions.specs.declared.Desk.{Desk}
 use Rattle.definitions.specs.declared.Order.{Order}
 use Rattle.definitions.specs.declared.Verdict.the-variants.{RejectS, RejectV, RejectQ, RejectW, RejectP, Warn30, Warn10, Accept}
-use Rattle.definitions.specs.Codes.{deskRows}
+use Rattle.definitions.specs.Codes.{deskRows, online}
 use Rattle.definitions.specs.Lists.{any}
 use Rattle.definitions.proofs.Lists.{found-next, found-end}
 use Rattle.definitions.specs.Rules.{ruleS, ruleV, ruleQ, ruleW, ruleP, warn30, warn10, verdictOf}
+use Rattle.rules.specs.Parts.{concernsP}
 
 -- what a call ensures of a test, and what an `if` found of the test
 pub known : {t u b : Bool} → t ≡ u → t ≡ b → u ≡ b
@@ -46,6 +48,15 @@ module _ (p : Row → Bool) (rows : List Row) where
 
   pub seen-end : (found : Bool) (i : ℕ) → deskRows ≤ i → Seen p rows found i → found ≡ any p rows
   seen-end found i h seen = found-end p found rows i (omega (arith, seen .all)) (seen .so-far)
+
+-- an order that W or P does not concern
+pub not-w : (session : ℕ) (s : Security) (d : Desk) (o : Order) → eqb (o .channel) online ≡ false → ruleW session s d o ≡ false
+unfolding ruleW
+not-w session s d o other = rw other
+
+pub not-p : (session clock : ℕ) (d : Desk) (o : Order) → concernsP session o ≡ false → ruleP session clock d o ≡ false
+unfolding ruleP
+not-p session clock d o other = rw other
 
 module _ (session clock : ℕ) (s : Security) (d : Desk) (o : Order) where
   -- no rule up to this one applies

@@ -13,8 +13,10 @@ mod size;
 
 use crate::bands::rule_q;
 use crate::bands::warn_30;
+use crate::codes::ONLINE;
 use crate::hours::rule_s;
 use crate::positions::warn_10;
+use crate::rows::concerns_p;
 use crate::rows::rule_p;
 use crate::rows::rule_w;
 use crate::size::rule_v;
@@ -23,7 +25,8 @@ use definitions::Order;
 use definitions::Security;
 use definitions::Verdict;
 
-// The rows are walked only for an order that S, V and Q let pass.
+// The rows are walked only for an order that S, V and Q let pass. W and P are asked only of an order that they concern ("online only"),
+// since each call copies the desk.
 pub fn verdict(session: u32, clock: u32, s: Security, d: Desk, o: Order) -> Verdict
     ensures { λ r. ⌜ r ≡ verdictOf session clock s d o ⌝ }
 {
@@ -36,10 +39,10 @@ pub fn verdict(session: u32, clock: u32, s: Security, d: Desk, o: Order) -> Verd
     if rule_q(session, s, o) {
         return Verdict::RejectQ;
     }
-    if rule_w(session, s, d, o) {
+    if o.channel == ONLINE && rule_w(session, s, d, o) {
         return Verdict::RejectW;
     }
-    if rule_p(session, clock, d, o) {
+    if concerns_p(session, o) && rule_p(session, clock, d, o) {
         return Verdict::RejectP;
     }
     if warn_30(session, s, o) {

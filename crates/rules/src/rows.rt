@@ -67,13 +67,9 @@ fn own_match(session: u32, b: Board, o: Order, r: Row) -> bool
         | ((o.ordtype == MP) & (r.ordtype == LIMIT) & (best == r.price))
 }
 
-// "online only": for any other order no row is read.
 pub fn rule_w(session: u32, s: Security, d: Desk, o: Order) -> bool
     ensures { λ r. ⌜ r ≡ ruleW session s d o ⌝ }
 {
-    if o.channel != ONLINE {
-        return false;
-    }
     let b = board_named(s, o.board);
     let mut found = false;
     let mut i: usize = 0;
@@ -83,7 +79,7 @@ pub fn rule_w(session: u32, s: Security, d: Desk, o: Order) -> bool
         found = found | now;
         i += 1;
     }
-    found
+    (o.channel == ONLINE) & found
 }
 
 // In 64 bits, where no time makes the sum wrap.
@@ -117,7 +113,7 @@ fn recalled(clock: u32, o: Order, r: Row) -> bool
 }
 
 // "limits, online, session 2: value at least 3 million baht".
-fn concerns_p(session: u32, o: Order) -> bool
+pub fn concerns_p(session: u32, o: Order) -> bool
     ensures { λ r. ⌜ r ≡ concernsP session o ⌝ }
 {
     let value = value_of(o.price, o.volume);
@@ -127,9 +123,6 @@ fn concerns_p(session: u32, o: Order) -> bool
 pub fn rule_p(session: u32, clock: u32, d: Desk, o: Order) -> bool
     ensures { λ r. ⌜ r ≡ ruleP session clock d o ⌝ }
 {
-    if !concerns_p(session, o) {
-        return false;
-    }
     let mut found = false;
     let mut i: usize = 0;
     while i < DESK_ROWS {
@@ -138,5 +131,5 @@ pub fn rule_p(session: u32, clock: u32, d: Desk, o: Order) -> bool
         found = found | now;
         i += 1;
     }
-    found
+    concerns_p(session, o) & found
 }

@@ -1,20 +1,24 @@
 -- `rules::boards::reference_30` meets its contract: the prices in the paper's order, each read where the one before is absent.
 -- Assumes nothing.
-use borrow.Author.Needs.{needs}
 use Rattle.rules.proofs.boards.reference_30.Statement.{statement}
 use Rattle.rules.proofs.boards.reference_30.Tie as tie
 
 board-named-requires : tie.Need-board-named-requires
-board-named-requires c κs = search needs
+board-named-requires c κs = tt
 
 main-last-sale-requires : tie.Need-main-last-sale-requires
-main-last-sale-requires c κs = search needs
+main-last-sale-requires c κs = tt
 
 or-else-requires : tie.Need-or-else-requires
-or-else-requires c κs = search needs
+or-else-requires c κs = tt
 
 returns : tie.Need-returns
-returns c = cc
+returns c =
+    rw (
+      c .or-else .ensures,
+      c .before .main-last-sale .ensures,
+      c .before .before .board-named .ensures,
+    )
 
 pub reference-30-spec : {M : Type 1} → statement M
 reference-30-spec = tie.close (tie.spec board-named-requires main-last-sale-requires or-else-requires returns)

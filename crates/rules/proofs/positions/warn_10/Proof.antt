@@ -2,7 +2,6 @@
 -- Assumes nothing.
 use mathlib.Core.Bool.{true}
 use mathlib.Core.Path.{_≡_}
-use borrow.Author.Needs.{needs}
 use Rattle.definitions.specs.Rules.{warn10}
 use Rattle.rules.specs.Parts.{concerns10}
 use Rattle.rules.proofs.Laws.{refused, passed}
@@ -10,29 +9,29 @@ use Rattle.rules.proofs.positions.warn_10.Statement.{statement}
 use Rattle.rules.proofs.positions.warn_10.Tie as tie
 
 concerns-10-requires : tie.Need-concerns-10-requires
-concerns-10-requires c κs = search needs
+concerns-10-requires c κs = tt
 
 returns : tie.Need-returns
 unfolding warn10
 returns c = rw (refused (c .before .concerns-10 .ensures) (c .if1 .taken))
 
 reference-10-requires : tie.Need-reference-10-requires
-reference-10-requires c κs = search needs
+reference-10-requires c κs = tt
 
 position-requires : tie.Need-position-requires
-position-requires c κs = search needs
+position-requires c κs = tt
 
 position-number-requires : tie.Need-position-number-requires
-position-number-requires c κs = search needs
+position-number-requires c κs = tt
 
 position-requires-2 : tie.Need-position-requires-2
-position-requires-2 c κs = search needs
+position-requires-2 c κs = tt
 
 position-number-requires-2 : tie.Need-position-number-requires-2
-position-number-requires-2 c κs = search needs
+position-number-requires-2 c κs = tt
 
 ten-apart-requires : tie.Need-ten-apart-requires
-ten-apart-requires c κs = search needs
+ten-apart-requires c κs = tt
 
 -- at an order that the first test let pass
 concerned : (c : tie.Else1) → concerns10 (c .before .before .args .session) (c .before .before .args .o) ≡ true
@@ -40,7 +39,16 @@ concerned c = passed (c .before .concerns-10 .ensures) (c .if1 .left)
 
 returns-2 : tie.Need-returns-2
 unfolding warn10
-returns-2 c = rw (concerned (c .before .before .before .before .before .before)) (cc)
+returns-2 c =
+    simp (
+      concerned (c .before .before .before .before .before .before),
+      c .ten-apart .ensures,
+      c .before .position-number2 .ensures,
+      c .before .before .position2 .ensures,
+      c .before .before .before .position-number .ensures,
+      c .before .before .before .before .position .ensures,
+      c .before .before .before .before .before .reference-10 .ensures,
+    )
 
 pub warn-10-spec : {M : Type 1} → statement M
 warn-10-spec =

@@ -1,14 +1,13 @@
 -- `rules::rows::concerns_p` meets its contract: the tests of the definition in its order, on the order's value.
 -- Assumes nothing.
-use borrow.Author.Needs.{needs}
 use Rattle.rules.proofs.rows.concerns_p.Statement.{statement}
 use Rattle.rules.proofs.rows.concerns_p.Tie as tie
 
 value-of-requires : tie.Need-value-of-requires
-value-of-requires c κs = search needs
+value-of-requires c κs = tt
 
 returns : tie.Need-returns
-returns c = cc
+returns c = rw (c .before .before .value-of .ensures)
 
 pub concerns-p-spec : {M : Type 1} → statement M
 concerns-p-spec = tie.close (tie.spec value-of-requires returns)

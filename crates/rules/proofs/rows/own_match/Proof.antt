@@ -2,27 +2,26 @@
 -- Assumes nothing.
 use mathlib.Core.Bool.{true}
 use mathlib.Core.Path.{_≡_}
-use borrow.Author.Needs.{needs}
 use Rattle.definitions.specs.Rules.{ownOpposite, ownMatch}
 use Rattle.rules.proofs.Laws.{refused, passed}
 use Rattle.rules.proofs.rows.own_match.Statement.{statement}
 use Rattle.rules.proofs.rows.own_match.Tie as tie
 
 own-opposite-requires : tie.Need-own-opposite-requires
-own-opposite-requires c κs = search needs
+own-opposite-requires c κs = tt
 
 returns : tie.Need-returns
 unfolding ownMatch
 returns c = rw (refused (c .before .own-opposite .ensures) (c .if1 .taken))
 
 reaches-requires : tie.Need-reaches-requires
-reaches-requires c κs = search needs
+reaches-requires c κs = tt
 
 meets-at-projected-requires : tie.Need-meets-at-projected-requires
-meets-at-projected-requires c κs = search needs
+meets-at-projected-requires c κs = tt
 
 best-opposite-requires : tie.Need-best-opposite-requires
-best-opposite-requires c κs = search needs
+best-opposite-requires c κs = tt
 
 -- at a row that the first test let pass
 opposite : (c : tie.Else1) → ownOpposite (c .before .before .args .o) (c .before .before .args .r) ≡ true
@@ -30,7 +29,13 @@ opposite c = passed (c .before .own-opposite .ensures) (c .if1 .left)
 
 returns-2 : tie.Need-returns-2
 unfolding ownMatch
-returns-2 c = rw (opposite (c .before .before .before .before .before .before .before .before .before .before .before .before)) (cc)
+returns-2 c =
+    rw (
+      opposite (c .before .before .before .before .before .before .before .before .before .before .before .before),
+      c .before .before .before .before .before .before .before .before .before .best-opposite .ensures,
+      c .before .before .before .before .before .before .before .before .before .before .meets-at-projected .ensures,
+      c .before .before .before .before .before .before .before .before .before .before .before .reaches .ensures,
+    )
 
 pub own-match-spec : {M : Type 1} → statement M
 own-match-spec =

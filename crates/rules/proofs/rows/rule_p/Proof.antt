@@ -1,11 +1,11 @@
--- `rules::rows::rule_p` meets its contract: only an order that the rule concerns is held against the rows, and the loop looks at all of them.
+-- `rules::rows::rule_p` meets its contract: the loop looks at all rows, and its finding counts for an order that the rule concerns.
 -- Assumes nothing.
 use Prim.Native.Nat.{_-_}
 use native.Mathlib.Omega.{arith}
 use borrow.Author.Needs.{needs}
 use Rattle.definitions.specs.Codes.{deskRows}
 use Rattle.definitions.specs.Rules.{recalled, ruleP}
-use Rattle.rules.proofs.Laws.{refused, passed, length-mapped, Seen, seen-none, seen-next, seen-end}
+use Rattle.rules.proofs.Laws.{length-mapped, Seen, seen-none, seen-next, seen-end}
 use Rattle.rules.proofs.rows.rule_p.Statement.{statement}
 use Rattle.rules.proofs.rows.rule_p.Tie as tie
 
@@ -14,13 +14,6 @@ Inv-loop session clock o d found₀ i₀ found i = Seen (recalled clock o) (d .r
 
 abbrev μ-loop : tie.MeasureT-loop
 μ-loop session clock o d found₀ i₀ found i = deskRows - i
-
-concerns-p-requires : tie.Need-concerns-p-requires Inv-loop μ-loop
-concerns-p-requires c κs = search needs
-
-returns : tie.Need-returns Inv-loop μ-loop
-unfolding ruleP
-returns c = rw (refused (c .before .concerns-p .ensures) (c .if1 .taken))
 
 loop-holds : tie.Need-loop-holds Inv-loop μ-loop
 loop-holds c = seen-none _ _ (search (needs, length-mapped))
@@ -32,7 +25,7 @@ element-copy-out-r : tie.Need-element-copy-out-r Inv-loop μ-loop
 element-copy-out-r c = search needs
 
 recalled-requires : tie.Need-recalled-requires Inv-loop μ-loop
-recalled-requires c κs = search needs
+recalled-requires c κs = tt
 
 add-i : tie.Need-add-i Inv-loop μ-loop
 add-i c = search needs
@@ -43,11 +36,13 @@ loop-less c = omega arith
 loop-again : tie.Need-loop-again Inv-loop μ-loop
 loop-again c = seen-next _ _ _ _ _ _ (omega arith) (c .recalled .ensures) (c .before .before .before .loop .inv)
 
-returns-2 : tie.Need-returns-2 Inv-loop μ-loop
+concerns-p-requires : tie.Need-concerns-p-requires Inv-loop μ-loop
+concerns-p-requires c κs = tt
+
+returns : tie.Need-returns Inv-loop μ-loop
 unfolding ruleP
-returns-2 c =
-    rw (passed (c .before .before .before .concerns-p .ensures) (c .before .before .if1 .left))
-    (seen-end _ _ _ _ (c .loop-test .left) (c .before .loop .inv))
+returns c =
+    rw (seen-end _ _ _ _ (c .before .loop-test .left) (c .before .before .loop .inv), c .concerns-p .ensures)
 
 pub rule-p-spec : {M : Type 1} → statement M
 rule-p-spec =
@@ -55,8 +50,6 @@ rule-p-spec =
     (tie.spec
     Inv-loop
     μ-loop
-    concerns-p-requires
-    returns
     loop-holds
     mul-r
     element-copy-out-r
@@ -64,4 +57,5 @@ rule-p-spec =
     add-i
     loop-less
     loop-again
-    returns-2)
+    concerns-p-requires
+    returns)

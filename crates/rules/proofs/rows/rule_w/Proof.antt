@@ -1,9 +1,8 @@
--- `rules::rows::rule_w` meets its contract: only an online order is held against the rows, and the loop looks at all of them.
+-- `rules::rows::rule_w` meets its contract: the loop looks at all rows, and its finding counts for an online order.
 -- Assumes nothing.
 use Prim.Native.Nat.{_-_}
 use native.Mathlib.Omega.{arith}
 use borrow.Author.Needs.{needs}
-use borrow.Author.Tests.{eq-eqb, ne-eqb}
 use Rattle.definitions.specs.Codes.{deskRows}
 use Rattle.definitions.specs.Rules.{ownMatch, ruleW}
 use Rattle.rules.proofs.Laws.{length-mapped, Seen, seen-none, seen-next, seen-end}
@@ -16,12 +15,8 @@ Inv-loop session o d b found₀ i₀ found i = Seen (ownMatch session b o) (d .r
 abbrev μ-loop : tie.MeasureT-loop
 μ-loop session o d b found₀ i₀ found i = deskRows - i
 
-returns : tie.Need-returns Inv-loop μ-loop
-unfolding ruleW
-returns c = rw (ne-eqb _ _ (c .if1 .taken))
-
 board-named-requires : tie.Need-board-named-requires Inv-loop μ-loop
-board-named-requires c κs = search needs
+board-named-requires c κs = tt
 
 loop-holds : tie.Need-loop-holds Inv-loop μ-loop
 loop-holds c = seen-none _ _ (search (needs, length-mapped))
@@ -33,7 +28,7 @@ element-copy-out-r : tie.Need-element-copy-out-r Inv-loop μ-loop
 element-copy-out-r c = search needs
 
 own-match-requires : tie.Need-own-match-requires Inv-loop μ-loop
-own-match-requires c κs = search needs
+own-match-requires c κs = tt
 
 add-i : tie.Need-add-i Inv-loop μ-loop
 add-i c = search needs
@@ -44,11 +39,13 @@ loop-less c = omega arith
 loop-again : tie.Need-loop-again Inv-loop μ-loop
 loop-again c = seen-next _ _ _ _ _ _ (omega arith) (c .own-match .ensures) (c .before .before .before .loop .inv)
 
-returns-2 : tie.Need-returns-2 Inv-loop μ-loop
+returns : tie.Need-returns Inv-loop μ-loop
 unfolding ruleW
-returns-2 c =
-    rw (eq-eqb _ _ (c .before .before .before .if1 .left), ← c .before .before .board-named .ensures)
-    (seen-end _ _ _ _ (c .loop-test .left) (c .before .loop .inv))
+returns c =
+    rw (
+      seen-end _ _ _ _ (c .before .loop-test .left) (c .before .before .loop .inv),
+      c .before .before .before .board-named .ensures,
+    )
 
 pub rule-w-spec : {M : Type 1} → statement M
 rule-w-spec =
@@ -56,7 +53,6 @@ rule-w-spec =
     (tie.spec
     Inv-loop
     μ-loop
-    returns
     board-named-requires
     loop-holds
     mul-r
@@ -65,4 +61,4 @@ rule-w-spec =
     add-i
     loop-less
     loop-again
-    returns-2)
+    returns)
