@@ -1,6 +1,6 @@
 -- A well-formed state: its sizes, clock and session fit and every record is sound. Each event keeps it, so conditions 1 and 8 never arise in a history.
 -- Assumes nothing.
-use mathlib.Core.Bool.{Bool, true, false, cond, _||_, true≢false}
+use mathlib.Core.Bool.{Bool, true, false, cond, _||_}
 use mathlib.Core.List.{List, [], _∷_}
 use mathlib.Core.Logic.{_⊎_, inl, inr, ⊎-elim}
 use mathlib.Core.Path.{_≡_, refl, ap, _∙_}
@@ -24,6 +24,7 @@ use Rattle.definitions.specs.Sound.{soundSecurity, soundDesk}
 use Rattle.definitions.specs.Events.{readEvent}
 use Rattle.definitions.specs.Refusals as refusals
 use Rattle.definitions.specs.Gate.{turned, wordsOf, viewOf, allSound, soundSecurityAt, soundDeskAt, refusal, sweepDeskAt, sessionMarket, afterClock, afterSession, perform, stepEvent, stepReading, step, stepWords}
+use Rattle.definitions.proofs.Tests.{or-parts}
 use Rattle.definitions.proofs.State as state
 use Rattle.definitions.proofs.State.{Sized}
 use Rattle.definitions.proofs.HeaderWords as words
@@ -40,14 +41,6 @@ pub record Good (customers securities : ℕ) (w : List ℕ) : Type 0 where
   pub session : headerOf w .session ≤ preClose
   pub securities-sound : (s : ℕ) → s < securities → soundSecurity (securityAt w s) ≡ true
   pub desks-sound : (k : ℕ) → k < customers → soundDesk securities (headerOf w .clock) (deskAt w k) ≡ true
-
-or-left : (a b : Bool) → (a || b) ≡ false → a ≡ false
-or-left true b e = e
-or-left false b e = refl
-
-or-right : (a b : Bool) → (a || b) ≡ false → b ≡ false
-or-right true b e = absurd (true≢false e)
-or-right false b e = e
 
 all-below : (n : ℕ) (p : ℕ → Bool) → ((i : ℕ) → i < n → p i ≡ true) → allBelow n p ≡ true
 unfolding allBelow
@@ -198,8 +191,8 @@ module _ {customers securities : ℕ} (w : List ℕ) (good : Good customers secu
   -- an order's customer and security, where condition 4 is not met
   pub order-names : (k s : ℕ) → (leb (headerOf w .customers) k || leb (headerOf w .securities) s) ≡ false → (k < customers) × (s < securities)
   order-names k s e = (
-    below-customers k (or-left (leb (headerOf w .customers) k) (leb (headerOf w .securities) s) e),
-    below-securities s (or-right (leb (headerOf w .customers) k) (leb (headerOf w .securities) s) e),
+    below-customers k (or-parts (leb (headerOf w .customers) k) (leb (headerOf w .securities) s) e .0),
+    below-securities s (or-parts (leb (headerOf w .customers) k) (leb (headerOf w .securities) s) e .1),
   )
 
   -- what an event that meets no condition does keeps a state well formed
@@ -227,7 +220,7 @@ module _ {customers securities : ℕ} (w : List ℕ) (good : Good customers secu
   performs (event.Match k x) p =
       let below = below-customers k (p .names) in
       good-put-desk k _ below (desk.length-matched (x .number) (x .volume) (deskAt w k) ∙ state.length-desk-rows w (good .sized) k)
-      (desk.sound-matched securities (headerOf w .clock) (x .number) (x .volume) (deskAt w k) (good .desks-sound k below) (or-left (eqb (x .volume) 0) _ (p .matchVolume)))
+      (desk.sound-matched securities (headerOf w .clock) (x .number) (x .volume) (deskAt w k) (good .desks-sound k below) (or-parts (eqb (x .volume) 0) _ (p .matchVolume) .0))
 
   pub step-is : (b : List ℕ) → step w b ≡ stepReading w (readEvent b)
   unfolding step

@@ -9,7 +9,7 @@ use lib.ListN.{length, getD, take, drop, length-append, length-take, length-drop
 use lib.Seq.{length-take-le, take-append-le, take-at, drop-at, take-take, drop-drop, getD-take, take-append-add, drop-append-add, take-nil}
 use Rattle.definitions.specs.Lists.{part, put}
 
-drop-take : (i m : ℕ) (l : List ℕ) → drop i (take m l) ≡ take (m - i) (drop i l)
+pub drop-take : (i m : ℕ) (l : List ℕ) → drop i (take m l) ≡ take (m - i) (drop i l)
 drop-take zero m l = rw sub-zero
 drop-take (suc i) zero l = rw zero-sub
 drop-take (suc i) (suc m) [] = sym (take-nil (suc m - suc i))

@@ -26,14 +26,6 @@ use Rattle.definitions.specs.Rules.{verdictOf}
 use Rattle.definitions.specs.Refusals.{names, liveWith, openBelow, numberTaken, noOpenRow, matchVolume, deskFull}
 use Rattle.definitions.specs.Gate.{result, resultOf, viewOf, soundDeskAt, unsound, perform, afterSetup, afterPrices}
 
-pub or-left : (a b : Bool) → (a || b) ≡ false → a ≡ false
-or-left true b e = e
-or-left false b e = refl
-
-pub or-right : (a b : Bool) → (a || b) ≡ false → b ≡ false
-or-right true b e = absurd (mathlib.Core.Bool.true≢false e)
-or-right false b e = e
-
 module _ (w : List ℕ) where
   pub named : (e : Event) (t : Bool) {h : Header} → h ≡ headerOf w → names h e ≡ t → names (headerOf w) e ≡ t
   named e t eh n = subst (λ (x : Header). names x e ≡ t) eh n

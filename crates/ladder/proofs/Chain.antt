@@ -12,6 +12,7 @@ use borrow.Author.Tests.{leb-true, leb-false, le-leb, lt-leb}
 use Rattle.ladder.specs.declared.Band.{Band}
 use Rattle.ladder.specs.Ladder.{lastBand, positionIn, priceIn}
 use Rattle.ladder.proofs.Step as step
+use Rattle.ladder.proofs.Table.{both-left, both-right}
 
 -- b has a step, and c begins after b, at the price that b's steps reach
 abbrev pub meets : Band → Band → Bool
@@ -30,14 +31,6 @@ pub record Meets (b c : Band) : Type 0 where
 pub data Chained : Band → List Band → Type 0 where
   last : {b : Band} → 0 < b .step → Chained b []
   next : {b c : Band} {cs : List Band} → Meets b c → Chained c cs → Chained b (c ∷ cs)
-
-both-left : (a b : Bool) → T (a && b) → T a
-both-left true b t = tt
-both-left false b t = t
-
-both-right : (a b : Bool) → T (a && b) → T b
-both-right true b t = t
-both-right false b t = absurd t
 
 pub tested : (b : Band) (cs : List Band) → T (chained b cs) → Chained b cs
 tested b [] t = last (ltb→lt 0 (b .step) t)

@@ -9,6 +9,7 @@ use native.Mathlib.Omega.{arith}
 use lib.ListN.{length, getD, take, drop, set, length-append, length-drop, length-set, length-map, take-append-drop}
 use lib.Seq.{paste, paste-suc, take-length, length-take-le, drop-drop, take-at, drop-at, take-suc-set, take-all}
 use Rattle.definitions.proofs.Lists.{take-next}
+use Rattle.definitions.proofs.Words.{length-put}
 use Rattle.definitions.specs.Lists.{part, put}
 use Rattle.definitions.specs.declared.Row.{Row}
 use Rattle.definitions.specs.declared.Desk.{Desk}
@@ -32,14 +33,10 @@ pub part-is : (w : List ℕ) (place n : ℕ) {at : ℕ} → at ≡ place → tak
 unfolding part
 part-is w place n e = rw (e, add-sub-cancel-left place n)
 
--- words put at a place: none, and as many as there were
+-- no words put at a place
 pub put-none : (w : List ℕ) (at : ℕ) → put w at [] ≡ w
 unfolding put
 put-none w at = rw (add-zero at) (take-append-drop at w)
-
-pub length-put : (w : List ℕ) (at : ℕ) (xs : List ℕ) → at + length xs ≤ length w → length (put w at xs) ≡ length w
-unfolding put
-length-put w at xs h = let room : at ≤ length w = omega arith in simp (length-append, length-take-le, length-drop) (omega arith)
 
 -- what is put next to what was put is one putting
 pub put-put : (w : List ℕ) (at : ℕ) (xs ys : List ℕ) → at + length xs ≤ length w

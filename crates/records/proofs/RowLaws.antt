@@ -9,7 +9,7 @@ use native.Mathlib.Nat.{add-suc}
 use native.Mathlib.Numerals.{add-one}
 use lib.Dec.{eqb}
 use lib.ListN.{length, getD, take, drop, set, drop-of-length-le, length-drop, length-set, take-append-drop}
-use lib.Seq.{take-suc-set, take-all, drop-drop, getD-take, getD-drop, length-take-le, take-add, drop-at}
+use lib.Seq.{take-suc-set, take-all, drop-drop, getD-take, getD-drop, length-take-le}
 use borrow.Author.Tests.{ne-eqb, eq-eqb, eqb-true, eqb-false}
 use Rattle.definitions.specs.declared.Row.{Row}
 use Rattle.definitions.specs.Lists.{any, all, part}
@@ -17,6 +17,7 @@ use Rattle.definitions.specs.State.{rowOf, rowsOf, deskPlace, deskOf, deskAt}
 use Rattle.definitions.specs.Gate.{soundDeskAt}
 use Rattle.definitions.specs.Sound.{marked, numbered, allZero, soundMarked, soundRow, markedFirst, numbersDiffer, soundDesk}
 use Rattle.definitions.proofs.Lists.{all-next, all-end}
+use Rattle.definitions.proofs.Words.{drop-take}
 use Rattle.records.specs.Tested.{equals, leading, apart, numberOf, soundLeading, soundRows}
 use Rattle.records.proofs.Laws.{rows-suc}
 
@@ -280,14 +281,13 @@ rows-tested securities clock n w size e f g =
     (sym (sound-split securities clock (rowsOf 32 w)))
 
 -- a desk's rows in the words of the state
-pub desk-tested : (w : List ℕ) (k : ℕ) {from : ℕ} {sound : Bool} → from ≡ deskPlace (getD w 1 0) k → deskPlace (getD w 1 0) k + 291 ≤ length w
+pub desk-tested : (w : List ℕ) (k : ℕ) {from : ℕ} {sound : Bool} → from ≡ deskPlace (getD w 1 0) k
     → sound ≡ soundRows (getD w 1 0) (getD w 2 0) (rowsOf 32 (take (from + 3 + 288 - (from + 3)) (drop (from + 3) w))) → sound ≡ soundDeskAt w k
 unfolding soundDesk deskAt deskOf part
-desk-tested w k {from} e h f =
+desk-tested w k {from} e f =
     let place : ℕ = deskPlace (getD w 1 0) k in
     let words : List ℕ = drop place w in
     let size : from + 3 + 288 - (from + 3) ≡ 288 = omega arith in
-    let counters : length (take 3 words) ≡ 3 = length-take-le 3 words (rw (length-drop place w) (omega arith)) in
     let rows : drop 3 (take 291 words) ≡ take 288 (drop (from + 3) w) =
-    ap (drop 3) (take-add 3 288 words) ∙ drop-at (take 3 words) (take 288 (drop 3 words)) 3 counters ∙ ap (take 288) (drop-drop 3 place w ∙ ap (λ (n : ℕ). drop (n + 3) w) (sym e)) in
+    drop-take 3 291 words ∙ ap (take 288) (drop-drop 3 place w ∙ ap (λ (n : ℕ). drop (n + 3) w) (sym e)) in
     rw (rows, ← size) f

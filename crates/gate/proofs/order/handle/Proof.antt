@@ -12,6 +12,7 @@ use Rattle.definitions.specs.declared.Event.the-variants as event
 use Rattle.definitions.specs.State.{headerOf}
 use Rattle.definitions.specs.Refusals as refusals
 use Rattle.definitions.specs.Gate.{viewOf, unsound}
+use Rattle.definitions.proofs.Tests.{or-parts}
 use Rattle.gate.proofs.Fits.{fits-header, fits-security, fits-desk}
 use Rattle.gate.proofs.Exits as exits
 use Rattle.gate.proofs.Conditions as seen
@@ -72,8 +73,8 @@ below c =
     let h = headerOf (w (start1 c)) in
     let k = start1 c .args .k in
     let s = start1 c .args .o .security in (
-      leb-false (h .customers) k (seen.or-left (leb (h .customers) k) (leb (h .securities) s) (named c)),
-      leb-false (h .securities) s (seen.or-right (leb (h .customers) k) (leb (h .securities) s) (named c)),
+      leb-false (h .customers) k (or-parts (leb (h .customers) k) (leb (h .securities) s) (named c) .0),
+      leb-false (h .securities) s (or-parts (leb (h .customers) k) (leb (h .securities) s) (named c) .1),
     )
 
 header-of-requires : tie.Need-header-of-requires

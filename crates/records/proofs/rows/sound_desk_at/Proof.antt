@@ -42,7 +42,7 @@ returns : tie.Need-returns
 returns c =
     let place = c .before .before .before .before in
     let start = place .before .before .before in
-    desk-tested (start .args .words .now) (start .args .k) (place .desk-place .ensures) (start .pre) (c .sound-rows .ensures)
+    desk-tested (start .args .words .now) (start .args .k) (place .desk-place .ensures) (c .sound-rows .ensures)
 
 pub sound-desk-at-spec : {M : Type 1} → statement M
 sound-desk-at-spec =
