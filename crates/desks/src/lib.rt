@@ -81,7 +81,7 @@ pub fn matched(number: u32, volume: u32, d: Desk) -> Desk
     closed
 }
 
-// The counters and the rows are different fields: the desk with the added row is made with its new counters.
+// The counters and the rows are different fields: the desk with the added row is made with its new counters, and no counted desk is copied.
 pub fn ordered(v: Verdict, clock: u32, o: Order, d: Desk) -> Desk
     ensures { λ r. ⌜ r ≡ ordered v clock o d ⌝ }
 {
