@@ -15,7 +15,7 @@ use Rattle.definitions.specs.declared.Verdict.{Verdict}
 use Rattle.definitions.specs.Codes.{mostCounted}
 use Rattle.definitions.specs.Lists.{bit, any, keep, count}
 use Rattle.definitions.specs.Sound.{marked}
-use Rattle.definitions.specs.Desks.{freeRow, closeUp, edited, withRows, addedLast, added, countedUp, accepts, rejects, warns, counted, takesRow, ordered}
+use Rattle.definitions.specs.Desks.{freeRow, closeUp, edited, withRows, addedLast, added, countedUp, rejects, warns, counted, takesRow, ordered}
 use Rattle.definitions.proofs.Lists.{take-next, any-next, any-end, count-next, count-end}
 
 pub length-mapped : {A B : Type 0} (f : A → B) (l : List A) (n : ℕ) → length (map f l) ≡ n → length l ≡ n
@@ -200,20 +200,15 @@ module _ (n : ℕ) (counts : Bool) where
   pub counted-most : not counts ≡ false → mostCounted ≤ n → n ≡ cond counts (countedUp n) n
   counted-most t s = rw (not-false counts t, le-ltb n mostCounted s)
 
-pub accepts-is : (v : Verdict) {no warned : Bool} → no ≡ rejects v → warned ≡ warns v → (not no && not warned) ≡ accepts v
-accepts-is v no-is warned-is = rw (no-is, warned-is)
-
 -- what a counter is after a verdict, by whether it counts
 abbrev after : Bool → ℕ → ℕ
 after counts n = cond counts (countedUp n) n
 
-abbrev pub withCounters : ℕ → ℕ → ℕ → Desk → Desk
-withCounters a w r d = record { accepted = a; warned = w; rejected = r; rows = d .rows }
-
-pub counted-is : (v : Verdict) (d : Desk) {yes warned no : Bool} {a w r : ℕ} → yes ≡ accepts v → a ≡ after yes (d .accepted)
-    → warned ≡ warns v → w ≡ after warned (d .warned) → no ≡ rejects v → r ≡ after no (d .rejected) → withCounters a w r d ≡ counted v d
+pub counted-is : (v : Verdict) (d : Desk) {no warned : Bool} {a w r : ℕ} → no ≡ rejects v → warned ≡ warns v
+    → a ≡ after (not no && not warned) (d .accepted) → w ≡ after warned (d .warned) → r ≡ after no (d .rejected)
+    → _≡_ {A = Desk} (record { accepted = a; warned = w; rejected = r; rows = d .rows }) (counted v d)
 unfolding counted
-counted-is v d accepts-is accepted-after warns-is warned-after rejects-is rejected-after = cc
+counted-is v d no-is warned-is accepted-is warned-after rejected-after = cc
 
 -- The counters and the rows are different fields: the desk may be counted before the order is added.
 module _ (v : Verdict) (clock : ℕ) (o : Order) (d : Desk) where

@@ -3,7 +3,7 @@ ghost use mathlib.Core.Bool.{cond};
 ghost use mathlib.Core.Path.{_≡_};
 ghost use lib.ListN.{replicate};
 ghost use Rattle.definitions.specs.Codes.{deskRows};
-ghost use Rattle.definitions.specs.Desks.{accepts, added, cancelled, counted, countedUp, freeRow, live, matched, openWith, ordered, rejects, swept, takesRow, warns};
+ghost use Rattle.definitions.specs.Desks.{added, cancelled, counted, countedUp, freeRow, live, matched, openWith, ordered, rejects, swept, takesRow, warns};
 ghost use Rattle.definitions.specs.Refusals.{liveWith, openBelow};
 ghost use Rattle.definitions.specs.Lists.{any, count};
 
@@ -81,14 +81,15 @@ pub fn matched(number: u32, volume: u32, d: Desk) -> Desk
     closed
 }
 
-// The counters and the rows are different fields: the desk with the added row is made with its new counters, and no counted desk is copied.
+// The counters rise first: the two changes are of different fields, and the desk is copied once less.
 pub fn ordered(v: Verdict, clock: u32, o: Order, d: Desk) -> Desk
     ensures { λ r. ⌜ r ≡ ordered v clock o d ⌝ }
 {
+    let after = counted(v, d);
     if takes_row(v, o) {
-        return added(v, clock, o, d);
+        return added(clock, o, after);
     }
-    counted(v, d)
+    after
 }
 
 // "Accepted or warned, not MP"
@@ -171,14 +172,11 @@ fn emptied(accepted: u32, warned: u32, rejected: u32) -> Desk
 }
 
 // "rows cancelled more than 60,000 ms ago go, then the order stands last as an open row"
-fn added(v: Verdict, clock: u32, o: Order, d: Desk) -> Desk
-    ensures { λ r. ⌜ r ≡ added clock o (counted v d) ⌝ }
+fn added(clock: u32, o: Order, d: Desk) -> Desk
+    ensures { λ r. ⌜ r ≡ added clock o d ⌝ }
 {
     let last = row_of_order(o);
-    let accepted = counted_if(accepts(v), d.accepted);
-    let warned = counted_if(warns(v), d.warned);
-    let rejected = counted_if(rejects(v), d.rejected);
-    let mut closed = emptied(accepted, warned, rejected);
+    let mut closed = emptied(d.accepted, d.warned, d.rejected);
     let mut n: usize = 0;
     let mut i: usize = 0;
     while i < 32 {
@@ -201,10 +199,12 @@ fn added(v: Verdict, clock: u32, o: Order, d: Desk) -> Desk
 fn counted(v: Verdict, d: Desk) -> Desk
     ensures { λ r. ⌜ r ≡ counted v d ⌝ }
 {
+    let rejected = rejects(v);
+    let warned = warns(v);
     let mut after = d;
-    after.accepted = counted_if(accepts(v), d.accepted);
-    after.warned = counted_if(warns(v), d.warned);
-    after.rejected = counted_if(rejects(v), d.rejected);
+    after.accepted = counted_if(!rejected & !warned, d.accepted);
+    after.warned = counted_if(warned, d.warned);
+    after.rejected = counted_if(rejected, d.rejected);
     after
 }
 
@@ -219,14 +219,6 @@ fn counted_if(counts: bool, n: u32) -> u32
         return n + 1;
     }
     n
-}
-
-fn accepts(v: Verdict) -> bool
-    ensures { λ r. ⌜ r ≡ accepts v ⌝ }
-{
-    let rejected = rejects(v);
-    let warned = warns(v);
-    !rejected & !warned
 }
 
 fn rejects(v: Verdict) -> bool
