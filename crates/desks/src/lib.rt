@@ -6,22 +6,19 @@ ghost use Rattle.definitions.specs.Codes.{deskRows};
 ghost use Rattle.definitions.specs.Desks.{added, cancelled, counted, countedUp, freeRow, live, matched, openWith, ordered, rejects, swept, takesRow, warns};
 ghost use Rattle.definitions.specs.Refusals.{liveWith, openBelow};
 ghost use Rattle.definitions.specs.Lists.{any, count};
-
-mod rows;
-
 use definitions::Desk;
 use definitions::Order;
 use definitions::Verdict;
-use rows::cancelled_row;
-use rows::expired_row;
-use rows::free_row;
-use rows::is_live;
-use rows::live_with;
-use rows::matched_row;
-use rows::open_below;
-use rows::open_with;
-use rows::row_of_order;
-use rows::swept_row;
+use order_rows::cancelled_row;
+use order_rows::expired_row;
+use order_rows::free_row;
+use order_rows::is_live;
+use order_rows::live_with;
+use order_rows::matched_row;
+use order_rows::open_below;
+use order_rows::open_with;
+use order_rows::row_of_order;
+use order_rows::swept_row;
 
 const MP: u32 = 3;
 

@@ -31,8 +31,6 @@ pub const ONLINE: u32 = 1;
 
 pub const DMA: u32 = 2;
 
-pub const REMEMBERED: u64 = 60_000;
-
 pub const MOST_VOLUME: u32 = 20_000_000;
 
 pub const DESK_ROWS: usize = 32;

@@ -1,8 +1,7 @@
 // Rules W and P: an order against the customer's own rows.
 ghost use mathlib.Core.Path.{_≡_};
-ghost use Prim.Native.Nat.{_+_, _*_};
+ghost use Prim.Native.Nat.{_*_};
 ghost use lib.Dec.{leb};
-ghost use Rattle.definitions.specs.Codes.{remembered};
 ghost use Rattle.definitions.specs.Rules.{reaches, ownOpposite, meetsAtProjected, ownMatch, ruleW, recalled, ruleP};
 ghost use Rattle.rules.specs.Parts.{concernsP};
 use crate::boards::best_opposite;
@@ -19,13 +18,13 @@ use crate::codes::OPEN_MARK;
 use crate::codes::OPENED;
 use crate::codes::PRE_CLOSE;
 use crate::codes::PRE_OPEN;
-use crate::codes::REMEMBERED;
 use crate::size::value_of;
 use definitions::Board;
 use definitions::Desk;
 use definitions::Order;
 use definitions::Row;
 use definitions::Security;
+use order_rows::within_minute;
 
 // "Limit buy at or above .. limit sell at or below".
 fn reaches(side: u32, price: u32, other: u32) -> bool
@@ -80,13 +79,6 @@ pub fn rule_w(session: u32, s: Security, d: Desk, o: Order) -> bool
         i += 1;
     }
     (o.channel == ONLINE) & found
-}
-
-// In 64 bits, where no time makes the sum wrap.
-fn within_minute(clock: u32, time: u32) -> bool
-    ensures { λ r. ⌜ r ≡ leb clock (time + remembered) ⌝ }
-{
-    (clock as u64) <= (time as u64) + REMEMBERED
 }
 
 // "twice the new volume being at least the cancelled volume", in 64 bits, where no volume makes the product wrap.

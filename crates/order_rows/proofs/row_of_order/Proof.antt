@@ -1,0 +1,11 @@
+-- `order_rows::row_of_order` meets its contract: the code is the definition, field by field.
+-- Assumes nothing.
+use mathlib.Core.Path.{refl}
+use Rattle.order_rows.proofs.row_of_order.Statement.{statement}
+use Rattle.order_rows.proofs.row_of_order.Tie as tie
+
+returns : tie.Need-returns
+returns c = refl
+
+pub row-of-order-spec : {M : Type 1} → statement M
+row-of-order-spec = tie.close (tie.spec returns)
