@@ -1,4 +1,8 @@
 // Paper 01, "The day program": events on standard input, a listing on standard output, over 8 customers and 16 securities.
+ghost use Prim.Native.Nat.{_≤_};
+ghost use lib.ListN.{length};
+ghost use Rattle.definitions.specs.Answers.{verdictText, refusedText, answerText};
+ghost use Rattle.day.specs.Text.{Opens};
 use definitions::Answer;
 use definitions::Verdict;
 use libc::STDIN_FILENO;
@@ -7,6 +11,9 @@ use reader::Step;
 
 // 4 + 13 x 16 + 291 x 8 words.
 const WORDS: usize = 2540;
+
+// `refused ` and at most ten digits.
+const TEXT: usize = 18;
 
 fn main() {
     let mut words = [0u32; WORDS];
@@ -34,36 +41,48 @@ fn list(words: &mut [u32], bytes: &[u8]) {
 
 // An event's index from 0, its kind byte and its answer.
 fn line(index: u64, kind: u8, answer: Answer) {
+    let mut text = [0u8; TEXT];
+    let length = answer_text(answer, &mut text);
     io::print_decimal(STDOUT_FILENO, index);
     io::write_all(STDOUT_FILENO, b" ");
     io::print_decimal(STDOUT_FILENO, kind as u64);
     io::write_all(STDOUT_FILENO, b" ");
-    match answer {
-        Answer::Ok => say(b"ok"),
-        Answer::Verdict(v) => verdict(v),
-        Answer::Refused(n) => refused(n),
-    }
+    io::write_all(STDOUT_FILENO, &text[..length]);
     io::write_all(STDOUT_FILENO, b"\n");
 }
 
-fn say(text: &[u8]) {
-    io::write_all(STDOUT_FILENO, text);
-}
-
-fn refused(n: u32) {
-    say(b"refused ");
-    io::print_decimal(STDOUT_FILENO, n as u64);
-}
-
-fn verdict(v: Verdict) {
-    match v {
-        Verdict::RejectS => say(b"reject S"),
-        Verdict::RejectV => say(b"reject V"),
-        Verdict::RejectQ => say(b"reject Q"),
-        Verdict::RejectW => say(b"reject W"),
-        Verdict::RejectP => say(b"reject P"),
-        Verdict::Warn30 => say(b"warn 30"),
-        Verdict::Warn10 => say(b"warn 10"),
-        Verdict::Accept => say(b"accept"),
+// Puts the answer's words at the start of `out`, and gives the number of their bytes.
+fn answer_text(answer: Answer, out: &mut [u8; TEXT]) -> usize
+    ensures { λ r. ⌜ Opens (answerText answer) r (now (out .exit)) ⌝ }
+{
+    match answer {
+        Answer::Ok => bytes::copy(b"ok", out),
+        Answer::Verdict(v) => verdict_text(v, out),
+        Answer::Refused(n) => refused_text(n, out),
     }
+}
+
+fn verdict_text(v: Verdict, out: &mut [u8; TEXT]) -> usize
+    ensures { λ r. ⌜ Opens (verdictText v) r (now (out .exit)) ⌝ }
+{
+    match v {
+        Verdict::RejectS => bytes::copy(b"reject S", out),
+        Verdict::RejectV => bytes::copy(b"reject V", out),
+        Verdict::RejectQ => bytes::copy(b"reject Q", out),
+        Verdict::RejectW => bytes::copy(b"reject W", out),
+        Verdict::RejectP => bytes::copy(b"reject P", out),
+        Verdict::Warn30 => bytes::copy(b"warn 30", out),
+        Verdict::Warn10 => bytes::copy(b"warn 10", out),
+        Verdict::Accept => bytes::copy(b"accept", out),
+    }
+}
+
+fn refused_text(n: u32, out: &mut [u8]) -> usize
+    requires { ⌜ 18 ≤ length (now out) ⌝ }
+    ensures { λ r. ⌜ Opens (refusedText n) r (now (out .exit)) ⌝ }
+{
+    let mut digits = [0u8; 20];
+    let length = io::decimal(n as u64, &mut digits);
+    let at = bytes::copy(b"refused ", out);
+    at + bytes::copy(&digits[..length], &mut out[at..])
 }

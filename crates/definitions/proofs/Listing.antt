@@ -1,10 +1,11 @@
 -- Paper 01, "The day program": its input, event by event, and the answers of its listing, over 8 customers and 16 securities.
-use mathlib.Core.List.{List, [], _∷_}
+use mathlib.Core.List.{List, [], _∷_, map}
 use mathlib.Core.Path.{_≡_, refl}
 use Prim.Native.Nat.{ℕ}
 use Rattle.definitions.specs.declared.Answer.{Answer}
 use Rattle.definitions.specs.declared.Answer.the-variants as answer
 use Rattle.definitions.specs.declared.Verdict.the-variants as verdict
+use Rattle.definitions.specs.Answers.{ascii, decimalIn, answerText}
 use Rattle.definitions.proofs.Bytes.{session, prices, order, cancel}
 use Rattle.definitions.proofs.Run.{answersOf}
 
@@ -33,3 +34,18 @@ listed =
 pub answers-listed : answersOf 8 16 input ≡ listed
 unfolding answersOf
 answers-listed = refl
+
+-- the answers of the paper's listing, as its bytes: `ok`, `ok`, `accept`, `reject W`, `ok`, `refused 10`
+abbrev pub words : List (List ℕ)
+words =
+    (111 ∷ 107 ∷ [])
+    ∷ (111 ∷ 107 ∷ [])
+    ∷ (97 ∷ 99 ∷ 99 ∷ 101 ∷ 112 ∷ 116 ∷ [])
+    ∷ (114 ∷ 101 ∷ 106 ∷ 101 ∷ 99 ∷ 116 ∷ 32 ∷ 87 ∷ [])
+    ∷ (111 ∷ 107 ∷ [])
+    ∷ (114 ∷ 101 ∷ 102 ∷ 117 ∷ 115 ∷ 101 ∷ 100 ∷ 32 ∷ 49 ∷ 48 ∷ [])
+    ∷ []
+
+pub words-listed : map answerText (answersOf 8 16 input) ≡ words
+unfolding answersOf ascii decimalIn
+words-listed = refl
