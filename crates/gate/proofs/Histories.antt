@@ -2,21 +2,23 @@
 -- Assumes nothing.
 use mathlib.Core.Bool.{Bool, true, false, cond}
 use mathlib.Core.List.{List, [], _∷_, _++_, map, append-assoc, append-nil}
-use mathlib.Core.Path.{_≡_, refl, ap, ap₂, sym, _∙_}
+use mathlib.Core.Path.{_≡_, refl, ap, ap₂, sym, subst, _∙_}
 use Prim.Native.Nat.{ℕ, zero, suc, _+_, _-_, _≤_, _<_}
+use native.Mathlib.Nat.{add-sub-cancel-left}
 use native.Mathlib.Numerals.{add-one}
 use native.Mathlib.Omega.{arith}
-use lib.ListN.{length, take, drop, set, drop-of-length-le, length-drop, length-set, take-append-drop}
-use lib.Seq.{drop-drop, take-suc-set, drop-set-lt}
+use lib.ListN.{length, getD, take, drop, set, drop-of-length-le, length-take, length-drop, length-set, take-append-drop}
+use lib.Seq.{take-all, drop-length, drop-drop, take-suc-set, drop-set-lt, getD-take, take-append-seam, drop-append-seam}
 use borrow.Author.Tests.{ne-eqb}
 use Rattle.definitions.specs.State.{fresh}
 use Rattle.definitions.specs.Gate.{stepWords, stepAnswer, wordsAfter, answersTo}
 use Rattle.definitions.specs.Lone.{concerns, marketWords, customerWords}
 use Rattle.definitions.specs.Walk.{taken, split}
 use Rattle.definitions.specs.Answers.{answerNumber}
+use Rattle.definitions.proofs.Lists.{drop-next}
 use Rattle.definitions.proofs.Demands.{isolated}
 use Rattle.reader.proofs.Laws.{EventAt}
-use Rattle.gate.specs.Ran.{picked, Ran}
+use Rattle.gate.specs.Ran.{picked, Ran, cut, Ends}
 
 -- every event is answered
 abbrev pub every : List ℕ → Bool
@@ -58,52 +60,26 @@ picked-numbers p w (b ∷ bs) = go (p b) (picked-numbers p (stepWords w b) bs)
     go true ih = ap (λ (xs : List ℕ). answerNumber (stepAnswer w b) ∷ xs) ih
     go false ih = ih
 
--- what the loop has done at a place: count events are answered, and what is left does the rest
-pub record SoFar (w₀ b a₀ w a : List ℕ) (at count : ℕ) : Type 0 where
-  pub room : count ≤ length a₀
-  pub within : at ≤ length b
+-- what a loop over a history has done: count events are answered, and those that are left do the rest
+pub record SoFar (w₀ : List ℕ) (history : List (List ℕ)) (a₀ w a : List ℕ) (left : List (List ℕ)) (count : ℕ) : Type 0 where
   pub long : length a ≡ length a₀
   pub kept : length w ≡ length w₀
   pub rest : drop count a ≡ drop count a₀
-  pub words : wordsAfter w (split (length a₀ - count) (drop at b)) ≡ wordsAfter w₀ (split (length a₀) b)
-  pub answers : take count a ++ numbers w (split (length a₀ - count) (drop at b)) ≡ numbers w₀ (split (length a₀) b)
-  pub counted : count + length (split (length a₀ - count) (drop at b)) ≡ length (split (length a₀) b)
+  pub words : wordsAfter w left ≡ wordsAfter w₀ history
+  pub answers : take count a ++ numbers w left ≡ numbers w₀ history
+  pub counted : count + length left ≡ length history
 
-pub begin : (w b a : List ℕ) → SoFar w b a w a 0 0
-begin w b a =
-    record {
-      room = omega arith;
-      within = omega arith;
-      long = refl;
-      kept = refl;
-      rest = refl;
-      words = ap (λ (n : ℕ). wordsAfter w (split n b)) none;
-      answers = ap (λ (n : ℕ). numbers w (split n b)) none;
-      counted = ap (λ (n : ℕ). 0 + length (split n b)) none ∙ omega arith;
-    }
-  where
-    none : length a - 0 ≡ length a
-    none = omega arith
+pub begin : (w a : List ℕ) (history : List (List ℕ)) → SoFar w history a w a history 0
+begin w a history = record { long = refl; kept = refl; rest = refl; words = refl; answers = refl; counted = omega arith }
 
-module _ (w₀ b a₀ w a : List ℕ) (at count : ℕ) (so-far : SoFar w₀ b a₀ w a at count) where
-  abbrev left : ℕ
-  left = length a₀ - (count + 1)
-
-  one-more : count < length a₀ → length a₀ - count ≡ suc left
-  one-more h = omega arith
-
+module _ (w₀ : List ℕ) (history : List (List ℕ)) (a₀ w a : List ℕ) (left : List (List ℕ)) (count : ℕ) (so-far : SoFar w₀ history a₀ w a left count) where
   -- one event more
-  pub turn : (end : ℕ) {v : List ℕ} {x : ℕ} → count < length a₀ → EventAt b at end
-      → length v ≡ length w → v ≡ stepWords w (take (end - at) (drop at b)) → x ≡ answerNumber (stepAnswer w (take (end - at) (drop at b)))
-      → SoFar w₀ b a₀ v (set a count x) end (count + 1)
+  pub turn : (e : List ℕ) (more : List (List ℕ)) {v : List ℕ} {x : ℕ} → count < length a → left ≡ e ∷ more
+      → length v ≡ length w → v ≡ stepWords w e → x ≡ answerNumber (stepAnswer w e) → SoFar w₀ history a₀ v (set a count x) more (count + 1)
   unfolding wordsAfter answersTo
-  turn end {v} {x} h here same ev ex =
-      let e = take (end - at) (drop at b) in
-      let events : split (length a₀ - count) (drop at b) ≡ e ∷ split left (drop end b) = ap (λ (n : ℕ). split n (drop at b)) (one-more h) ∙ split-next left b at end here in
-      let stored : take (count + 1) (set a count x) ≡ take count a ++ (x ∷ []) = rw add-one (take-suc-set a count x (omega (arith, so-far .long))) in
+  turn e more {v} {x} h events same ev ex =
+      let stored : take (count + 1) (set a count x) ≡ take count a ++ (x ∷ []) = rw add-one (take-suc-set a count x h) in
       record {
-        room = omega arith;
-        within = here .within;
         long = simp length-set (so-far .long);
         kept = same ∙ so-far .kept;
         rest =
@@ -111,21 +87,20 @@ module _ (w₀ b a₀ w a : List ℕ) (at count : ℕ) (so-far : SoFar w₀ b a�
             ∙ sym (drop-drop 1 count a)
             ∙ ap (drop 1) (so-far .rest)
             ∙ drop-drop 1 count a₀;
-        words = ap (λ (u : List ℕ). wordsAfter u (split left (drop end b))) ev ∙ ap (wordsAfter w) (sym events) ∙ so-far .words;
+        words = ap (λ (u : List ℕ). wordsAfter u more) ev ∙ ap (wordsAfter w) (sym events) ∙ so-far .words;
         answers =
-            ap₂ (λ (t : List ℕ) (u : List ℕ). t ++ numbers u (split left (drop end b))) stored ev
-            ∙ append-assoc (take count a) (x ∷ []) (numbers (stepWords w e) (split left (drop end b)))
-            ∙ ap (λ (n : ℕ). take count a ++ (n ∷ numbers (stepWords w e) (split left (drop end b)))) ex
+            ap₂ (λ (t : List ℕ) (u : List ℕ). t ++ numbers u more) stored ev
+            ∙ append-assoc (take count a) (x ∷ []) (numbers (stepWords w e) more)
+            ∙ ap (λ (n : ℕ). take count a ++ (n ∷ numbers (stepWords w e) more)) ex
             ∙ ap (λ (bs : List (List ℕ)). take count a ++ numbers w bs) (sym events)
             ∙ so-far .answers;
         counted = omega (arith, so-far .counted, ap length events);
       }
 
   -- nothing is left
-  pub finish : split (length a₀ - count) (drop at b) ≡ [] → Ran w₀ b a₀ count w a
+  pub finish : left ≡ [] → Ran w₀ history a₀ count w a
   unfolding wordsAfter answersTo
   finish none =
-      let history = split (length a₀) b in
       let after : w ≡ wordsAfter w₀ history = ap (wordsAfter w) (sym none) ∙ so-far .words in
       let written : take count a ≡ numbers w₀ history =
       sym (append-nil (take count a)) ∙ ap (λ (bs : List (List ℕ)). take count a ++ numbers w bs) (sym none) ∙ so-far .answers in
@@ -147,3 +122,99 @@ module _ (w₀ b a₀ w a : List ℕ) (at count : ℕ) (so-far : SoFar w₀ b a�
               desk-same = ap (λ (u : List ℕ). customerWords u k) ends ∙ i .desk;
             };
       }
+
+-- a loop over events one after another in bytes
+pub record Walks (w₀ b a₀ w a : List ℕ) (at count : ℕ) : Type 0 where
+  pub room : count ≤ length a₀
+  pub within : at ≤ length b
+  pub so-far : SoFar w₀ (split (length a₀) b) a₀ w a (split (length a₀ - count) (drop at b)) count
+
+pub walks-none : (w b a : List ℕ) → Walks w b a w a 0 0
+walks-none w b a =
+    let none : length a ≡ length a - 0 = omega arith in
+    record { room = omega arith; within = omega arith; so-far = ap·subst none }
+  where
+    ap·subst : length a ≡ length a - 0 → SoFar w (split (length a) b) a w a (split (length a - 0) b) 0
+    ap·subst none = subst (λ (n : ℕ). SoFar w (split (length a) b) a w a (split n b) 0) none (begin w a (split (length a) b))
+
+pub walks-next : (w₀ b a₀ w a : List ℕ) (at count end : ℕ) {v : List ℕ} {x : ℕ} → Walks w₀ b a₀ w a at count → count < length a → EventAt b at end
+    → length v ≡ length w → v ≡ stepWords w (take (end - at) (drop at b)) → x ≡ answerNumber (stepAnswer w (take (end - at) (drop at b)))
+    → Walks w₀ b a₀ v (set a count x) end (count + 1)
+walks-next w₀ b a₀ w a at count end inv h here same ev ex =
+    let one-more : length a₀ - count ≡ suc (length a₀ - (count + 1)) = omega (arith, inv .so-far .long) in
+    record {
+      room = omega (arith, inv .so-far .long);
+      within = here .within;
+      so-far =
+          turn w₀ (split (length a₀) b) a₀ w a (split (length a₀ - count) (drop at b)) count (inv .so-far) (take (end - at) (drop at b)) (split (length a₀ - (count + 1)) (drop end b)) h
+          (ap (λ (n : ℕ). split n (drop at b)) one-more ∙ split-next (length a₀ - (count + 1)) b at end here)
+          same ev ex;
+    }
+
+-- a loop over events by their lengths: the first that the answers have places for
+pub record Cuts (w₀ b ns a₀ w a : List ℕ) (at count : ℕ) : Type 0 where
+  pub room : count ≤ length a₀
+  pub within : at ≤ length b
+  pub so-far : SoFar w₀ (cut (take (length a₀) ns) b) a₀ w a (cut (drop count (take (length a₀) ns)) (drop at b)) count
+
+pub cuts-none : (w b ns a : List ℕ) → Cuts w b ns a w a 0 0
+cuts-none w b ns a = record { room = omega arith; within = omega arith; so-far = begin w a (cut (take (length a) ns) b) }
+
+pub ends-past : (b : List ℕ) (at n : ℕ) → at ≤ length b → length b - at < n → Ends b at n (length b)
+ends-past b at n h short =
+    let left : length (drop at b) ≡ length b - at = length-drop at b in
+    record {
+      grows = h;
+      within = omega arith;
+      event = take-all (length b - at) (drop at b) (omega arith) ∙ sym (take-all n (drop at b) (omega arith));
+      after = drop-length b ∙ sym (drop-of-length-le (drop at b) {i = n} (omega arith));
+    }
+
+pub ends-within : (b : List ℕ) (at n : ℕ) → at ≤ length b → n ≤ length b - at → Ends b at n (at + n)
+ends-within b at n h room =
+    record {
+      grows = omega arith;
+      within = omega arith;
+      event = ap (λ (k : ℕ). take k (drop at b)) (add-sub-cancel-left at n);
+      after = sym (drop-drop n at b);
+    }
+
+pub cuts-next : (w₀ b ns a₀ w a : List ℕ) (at count end : ℕ) {v : List ℕ} {x : ℕ} → Cuts w₀ b ns a₀ w a at count → count < length a → count < length ns → Ends b at (getD ns count 0) end
+    → length v ≡ length w → v ≡ stepWords w (take (end - at) (drop at b)) → x ≡ answerNumber (stepAnswer w (take (end - at) (drop at b)))
+    → Cuts w₀ b ns a₀ v (set a count x) end (count + 1)
+unfolding cut
+cuts-next w₀ b ns a₀ w a at count end inv h some here same ev ex =
+    let listed : count < length (take (length a₀) ns) = omega (arith, length-take (length a₀) ns, inv .so-far .long) in
+    let first : getD (take (length a₀) ns) count 0 ≡ getD ns count 0 = getD-take (length a₀) ns count 0 (omega (arith, inv .so-far .long)) in
+    record {
+      room = omega (arith, inv .so-far .long);
+      within = here .within;
+      so-far =
+          turn w₀ (cut (take (length a₀) ns) b) a₀ w a (cut (drop count (take (length a₀) ns)) (drop at b)) count (inv .so-far) (take (end - at) (drop at b)) (cut (drop (count + 1) (take (length a₀) ns)) (drop end b)) h
+          (rw (drop-next (take (length a₀) ns) count 0 listed, first, here .event, here .after))
+          same ev ex;
+    }
+
+-- no length is left
+pub cuts-end : (ns b : List ℕ) (most count : ℕ) → length ns ≤ count → cut (drop count (take most ns)) b ≡ []
+unfolding cut
+cuts-end ns b most count h =
+    let past : length (take most ns) ≤ count = omega (arith, length-take most ns) in
+    ap (λ (ms : List ℕ). cut ms b) (drop-of-length-le (take most ns) past)
+
+-- no place for an answer is left
+pub cuts-full : (ns b : List ℕ) (most count : ℕ) → most ≤ count → cut (drop count (take most ns)) b ≡ []
+unfolding cut
+cuts-full ns b most count h =
+    let past : length (take most ns) ≤ count = omega (arith, length-take most ns) in
+    ap (λ (ms : List ℕ). cut ms b) (drop-of-length-le (take most ns) past)
+
+-- every history can be handed in by its bytes and lengths
+abbrev pub joined : List (List ℕ) → List ℕ
+joined [] = []
+joined (e ∷ es) = e ++ joined es
+
+pub every-history : (history : List (List ℕ)) → cut (map length history) (joined history) ≡ history
+unfolding cut
+every-history [] = refl
+every-history (e ∷ es) = rw (take-append-seam e (joined es), drop-append-seam e (joined es), every-history es)

@@ -2,13 +2,12 @@
 use mathlib.Core.Bool.{Bool, true, cond}
 use mathlib.Core.List.{List, [], _∷_, _++_, map}
 use mathlib.Core.Path.{_≡_}
-use Prim.Native.Nat.{ℕ, _<_}
+use Prim.Native.Nat.{ℕ, _-_, _≤_, _<_}
 use lib.ListN.{length, take, drop}
 use Rattle.definitions.specs.Lists.{keep}
 use Rattle.definitions.specs.State.{sizesFit, fresh, deskWords}
 use Rattle.definitions.specs.Gate.{wordsAfter, answersTo}
 use Rattle.definitions.specs.Lone.{loneFresh, loneAfter, loneAnswers, concerns, marketWords, customerWords}
-use Rattle.definitions.specs.Walk.{split}
 use Rattle.definitions.specs.Answers.{answerNumber}
 
 -- of the answers to some events, those to the events that a test picks
@@ -23,9 +22,21 @@ pub record Alone (customers securities k : ℕ) (history : List (List ℕ)) (ans
   pub market-same : marketWords words ≡ loneAfter (loneFresh customers securities) (keep (concerns customers k) history) .market
   pub desk-same : customerWords words k ≡ deskWords (loneAfter (loneFresh customers securities) (keep (concerns customers k) history) .desk)
 
--- the words w, the bytes b and the places a for answers came; the count, the words v and the answers c are left
-pub record Ran (w b a : List ℕ) (count : ℕ) (v c : List ℕ) : Type 0 where
-  pub events-counted : count ≡ length (split (length a) b)
-  pub words-after : v ≡ wordsAfter w (split (length a) b)
-  pub answers-written : c ≡ map answerNumber (answersTo (λ _. true) w (split (length a) b)) ++ drop count a
-  pub alone : (customers securities : ℕ) → sizesFit customers securities ≡ true → w ≡ fresh customers securities → (k : ℕ) → k < customers → Alone customers securities k (split (length a) b) (take count c) v
+-- the words w, a history and the places a for answers came; the count, the words v and the answers c are left
+pub record Ran (w : List ℕ) (history : List (List ℕ)) (a : List ℕ) (count : ℕ) (v c : List ℕ) : Type 0 where
+  pub events-counted : count ≡ length history
+  pub words-after : v ≡ wordsAfter w history
+  pub answers-written : c ≡ map answerNumber (answersTo (λ _. true) w history) ++ drop count a
+  pub alone : (customers securities : ℕ) → sizesFit customers securities ≡ true → w ≡ fresh customers securities → (k : ℕ) → k < customers → Alone customers securities k history (take count c) v
+
+-- the history that bytes and lengths hand in: each event takes its length of the bytes, or what is left of them
+unfoldable pub cut : List ℕ → List ℕ → List (List ℕ)
+cut [] b = []
+cut (n ∷ ns) b = take n b ∷ cut ns (drop n b)
+
+-- where an event ends that takes n bytes, or what is left
+pub record Ends (b : List ℕ) (at n end : ℕ) : Type 0 where
+  pub grows : at ≤ end
+  pub within : end ≤ length b
+  pub event : take (end - at) (drop at b) ≡ take n (drop at b)
+  pub after : drop end b ≡ drop n (drop at b)

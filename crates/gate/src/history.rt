@@ -1,19 +1,21 @@
-// Events one after another in lent bytes: a history, handed to the gate in one call.
+// A history, handed to the gate in one call: events one after another in lent bytes.
 ghost use mathlib.Core.Path.{_≡_};
+ghost use Prim.Native.Nat.{_≤_};
+ghost use lib.ListN.{length, take};
+ghost use Rattle.definitions.specs.Walk.{split};
 ghost use Rattle.definitions.specs.Answers.{answerNumber, verdictNumber};
-ghost use Rattle.gate.specs.Ran.{Ran};
+ghost use Rattle.gate.specs.Ran.{Ran, cut, Ends};
 use crate::handle;
 use definitions::Answer;
 use definitions::Verdict;
 use reader::Step;
 
 // Handles as many events as there are places for answers, writes the number of each answer to its place, and gives the count. The contract carries
-// demand 3 to the code, for the histories that bytes one after another can spell: over a fresh state, what the words and the answers hold of the
-// market and of each customer is what that customer's lone run holds. Bytes that are no whole event end such a history; for all others the claim is
-// `isolated` of the definitions with `handle`'s contract, call by call.
+// demand 3 to the code: over a fresh state, what the words and the answers hold of the market and of each customer is what that customer's lone run
+// holds. Bytes that are no whole event end such a history; one in which they stand before others is handed to `run_list`.
 pub fn run(words: &mut [u32], events: &[u8], answers: &mut [u32]) -> usize
     ensures { λ count.
-        ⌜ Ran (now (words .entry)) (now (events .entry)) (now (answers .entry)) count (now (words .exit)) (now (answers .exit)) ⌝ }
+        ⌜ Ran (now (words .entry)) (split (length (now (answers .entry))) (now (events .entry))) (now (answers .entry)) count (now (words .exit)) (now (answers .exit)) ⌝ }
 {
     let mut at = 0;
     let mut count = 0;
@@ -27,6 +29,38 @@ pub fn run(words: &mut [u32], events: &[u8], answers: &mut [u32]) -> usize
         count += 1;
     }
     count
+}
+
+// The same for events by their lengths: every history can be handed in so (`every-history`), also one in which bytes that are no whole event stand
+// before others. A length beyond the bytes takes what is left of them.
+pub fn run_list(words: &mut [u32], events: &[u8], lengths: &[u32], answers: &mut [u32]) -> usize
+    ensures { λ count.
+        ⌜ Ran (now (words .entry)) (cut (take (length (now (answers .entry))) (now (lengths .entry))) (now (events .entry))) (now (answers .entry)) count (now (words .exit)) (now (answers .exit)) ⌝ }
+{
+    let mut at = 0;
+    let mut count = 0;
+    while count < answers.len() {
+        if lengths.len() <= count {
+            return count;
+        }
+        let end = end_of(events, at, lengths[count]);
+        answers[count] = answer_number(handle(words, &events[at..end]));
+        at = end;
+        count += 1;
+    }
+    count
+}
+
+fn end_of(events: &[u8], at: usize, wanted: u32) -> usize
+    requires { ⌜ at ≤ length (now events) ⌝ }
+    ensures { λ end. ⌜ Ends (now (events .entry)) at wanted end ⌝ }
+{
+    let left = events.len() - at;
+    let taken = wanted as usize;
+    if left < taken {
+        return events.len();
+    }
+    at + taken
 }
 
 pub fn answer_number(a: Answer) -> u32

@@ -19,6 +19,7 @@ mod setup;
 
 pub use history::answer_number;
 pub use history::run;
+pub use history::run_list;
 
 // One event's bytes, handed to the gate over lent words. Total on every slice of words and of bytes.
 pub fn handle(words: &mut [u32], event: &[u8]) -> Answer

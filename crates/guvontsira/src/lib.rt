@@ -4,7 +4,9 @@ ghost use Rattle.ladder.specs.Ladder.{positionOf, priceAt};
 ghost use Rattle.definitions.specs.Rules.{positionNumber};
 ghost use Rattle.definitions.specs.Answers.{answerNumber};
 ghost use Rattle.definitions.specs.Gate.{answerOf, wordsOf, step, made};
-ghost use Rattle.gate.specs.Ran.{Ran};
+ghost use lib.ListN.{length, take};
+ghost use Rattle.definitions.specs.Walk.{split};
+ghost use Rattle.gate.specs.Ran.{Ran, cut};
 use ladder::Ladder;
 use ladder::Position;
 
@@ -29,9 +31,22 @@ pub extern "C" fn guvontsira_handle(words: &mut [u32], event: &[u8]) -> u32
 #[no_mangle]
 pub extern "C" fn guvontsira_run(words: &mut [u32], events: &[u8], answers: &mut [u32]) -> usize
     ensures { λ count.
-        ⌜ Ran (now (words .entry)) (now (events .entry)) (now (answers .entry)) count (now (words .exit)) (now (answers .exit)) ⌝ }
+        ⌜ Ran (now (words .entry)) (split (length (now (answers .entry))) (now (events .entry))) (now (answers .entry)) count (now (words .exit)) (now (answers .exit)) ⌝ }
 {
     gate::run(words, events, answers)
+}
+
+#[no_mangle]
+pub extern "C" fn guvontsira_run_list(
+    words: &mut [u32],
+    events: &[u8],
+    lengths: &[u32],
+    answers: &mut [u32],
+) -> usize
+    ensures { λ count.
+        ⌜ Ran (now (words .entry)) (cut (take (length (now (answers .entry))) (now (lengths .entry))) (now (events .entry))) (now (answers .entry)) count (now (words .exit)) (now (answers .exit)) ⌝ }
+{
+    gate::run_list(words, events, lengths, answers)
 }
 
 // 0 for a price off the ladder.

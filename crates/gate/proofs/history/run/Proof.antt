@@ -9,12 +9,12 @@ use borrow.Author.Needs.{needs}
 use Rattle.definitions.specs.Answers.{answerNumber}
 use Rattle.definitions.specs.Gate.{Result}
 use Rattle.reader.proofs.Laws.{EventAt, event-at, end-at}
-use Rattle.gate.proofs.Histories.{SoFar, begin, turn, finish, split-none, none-left}
+use Rattle.gate.proofs.Histories.{Walks, walks-none, walks-next, finish, split-none, none-left}
 use Rattle.gate.proofs.history.run.Statement.{statement}
 use Rattle.gate.proofs.history.run.Tie as tie
 
 abbrev Inv-loop : tie.InvT-loop
-Inv-loop words₀ events answers₀ at₀ count₀ words answers at count = SoFar words₀ events answers₀ words answers at count
+Inv-loop words₀ events answers₀ at₀ count₀ words answers at count = Walks words₀ events answers₀ words answers at count
 
 abbrev μ-loop : tie.MeasureT-loop
 μ-loop words₀ events answers₀ at₀ count₀ words answers at count = length answers₀ - count
@@ -25,10 +25,10 @@ here c = event-at _ _ _ (sym (c .before .before .next-event .ensures) ∙ c .ste
 
 -- there is room for its answer
 room : (c : tie.In-loop Inv-loop μ-loop) → c .before .loop .count < length (c .before .before .before .before .before .args .answers .now)
-room c = omega (arith, c .loop-test .taken, c .before .loop .inv .long)
+room c = omega (arith, c .loop-test .taken, c .before .loop .inv .so-far .long)
 
 loop-holds : tie.Need-loop-holds Inv-loop μ-loop
-loop-holds c = begin _ _ _
+loop-holds c = walks-none _ _ _
 
 next-event-requires : tie.Need-next-event-requires Inv-loop μ-loop
 next-event-requires c κs = search needs
@@ -40,14 +40,14 @@ enum-told : tie.Need-enum-told Inv-loop μ-loop
 enum-told c = search needs
 
 same-length : tie.Need-same-length Inv-loop μ-loop
-same-length c = c .before .before .before .before .loop .inv .kept
+same-length c = c .before .before .before .before .loop .inv .so-far .kept
 
 same-length-2 : tie.Need-same-length-2 Inv-loop μ-loop
-same-length-2 c = c .before .before .before .before .loop .inv .long
+same-length-2 c = c .before .before .before .before .loop .inv .so-far .long
 
 returns : tie.Need-returns Inv-loop μ-loop
 returns c =
-    finish _ _ _ _ _ _ _ (c .before .before .before .before .loop .inv) (split-none _ _ _ (end-at _ _ (sym (c .before .before .next-event .ensures) ∙ c .enum-told .given .1)))
+    finish _ _ _ _ _ _ _ (c .before .before .before .before .loop .inv .so-far) (split-none _ _ _ (end-at _ _ (sym (c .before .before .next-event .ensures) ∙ c .enum-told .given .1)))
 
 sub-handle : tie.Need-sub-handle Inv-loop μ-loop
 sub-handle c = omega (arith, here (c .before .before) .grows)
@@ -78,20 +78,21 @@ loop-less c = omega (arith, room (c .before .before .before .before .before .bef
 
 loop-again : tie.Need-loop-again Inv-loop μ-loop
 loop-again c =
-    turn _ _ _ _ _ _ _ (c .before .before .before .before .before .before .before .before .before .before .before .loop .inv) _ (room (c .before .before .before .before .before .before .before .before .before .before)) (here (c .before .before .before .before .before .before .before)) (c .before .before .before .handle .kept .0)
+    let test = c .before .before .before .before .before .before .before .before .before .before in
+    walks-next _ _ _ _ _ _ _ _ (test .before .loop .inv) (test .loop-test .taken) (here (c .before .before .before .before .before .before .before)) (c .before .before .before .handle .kept .0)
     (ap (λ (x : Result). x .words) (c .before .before .before .handle .ensures))
     (c .answer-number .ensures ∙ ap answerNumber (ap (λ (x : Result). x .answer) (c .before .before .before .handle .ensures)))
 
 same-length-3 : tie.Need-same-length-3 Inv-loop μ-loop
-same-length-3 c = c .before .loop .inv .kept
+same-length-3 c = c .before .loop .inv .so-far .kept
 
 same-length-4 : tie.Need-same-length-4 Inv-loop μ-loop
-same-length-4 c = c .before .loop .inv .long
+same-length-4 c = c .before .loop .inv .so-far .long
 
 returns-2 : tie.Need-returns-2 Inv-loop μ-loop
 returns-2 c =
     let i = c .before .loop .inv in
-    finish _ _ _ _ _ _ _ i (none-left _ _ _ (omega (arith, c .loop-test .left, i .room, i .long)))
+    finish _ _ _ _ _ _ _ (i .so-far) (none-left _ _ _ (omega (arith, c .loop-test .left, i .room, i .so-far .long)))
 
 pub run-spec : {M : Type 1} → statement M
 run-spec =
