@@ -1,5 +1,6 @@
 -- The three demands of paper 00 as theorems over the definitions of paper 01. Read this file first: each theorem stands under the sentence that it
--- proves, and each definition that it names is in crates/definitions/specs. That the code does what `step` says is the contract of `gate::handle`.
+-- proves. The definitions that it names are in crates/definitions/specs, but for two that stand beside their laws: `FoundFirst` in Turned.antt, and `Good`,
+-- a well-formed state, in WellFormed.antt. That the code does what `step` says is the contract of `gate::handle`.
 -- Assumes nothing.
 use mathlib.Core.Bool.{Bool, true, not}
 use mathlib.Core.List.{List}

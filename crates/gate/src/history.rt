@@ -37,15 +37,15 @@ pub fn run_list(words: &mut [u32], events: &[u8], lengths: &[u32], answers: &mut
     ensures { λ count.
         ⌜ Ran (now (words .entry)) (cut (take (length (now (answers .entry))) (now (lengths .entry))) (now (events .entry))) (now (answers .entry)) count (now (words .exit)) (now (answers .exit)) ⌝ }
 {
-    let mut at = 0;
+    let mut from = 0;
     let mut count = 0;
     while count < answers.len() {
         if lengths.len() <= count {
             return count;
         }
-        let end = end_of(events, at, lengths[count]);
-        answers[count] = answer_number(handle(words, &events[at..end]));
-        at = end;
+        let end = end_of(events, from, lengths[count]);
+        answers[count] = answer_number(handle(words, &events[from..end]));
+        from = end;
         count += 1;
     }
     count

@@ -12,10 +12,10 @@ use Rattle.gate.proofs.history.run_list.Statement.{statement}
 use Rattle.gate.proofs.history.run_list.Tie as tie
 
 abbrev Inv-loop : tie.InvT-loop
-Inv-loop words₀ events lengths answers₀ at₀ count₀ words answers at count = Cuts words₀ events lengths answers₀ words answers at count
+Inv-loop words₀ events lengths answers₀ from₀ count₀ words answers from count = Cuts words₀ events lengths answers₀ words answers from count
 
 abbrev μ-loop : tie.MeasureT-loop
-μ-loop words₀ events lengths answers₀ at₀ count₀ words answers at count = length answers₀ - count
+μ-loop words₀ events lengths answers₀ from₀ count₀ words answers from count = length answers₀ - count
 
 abbrev start : tie.At-loop Inv-loop μ-loop → tie.Start Inv-loop μ-loop
 start c = c .before .before .before .before .before
@@ -37,7 +37,7 @@ returns : tie.Need-returns Inv-loop μ-loop
 returns c =
     let turn = c .before .before .loop in
     let args = start (c .before .before) .args in
-    finish _ _ _ _ _ _ _ (turn .inv .so-far) (cuts-end (args .lengths .now) (drop (turn .at) (args .events .now)) (length (args .answers .now)) (turn .count) (c .if1 .taken))
+    finish _ _ _ _ _ _ _ (turn .inv .so-far) (cuts-end (args .lengths .now) (drop (turn .from) (args .events .now)) (length (args .answers .now)) (turn .count) (c .if1 .taken))
 
 mul-end-of : tie.Need-mul-end-of Inv-loop μ-loop
 mul-end-of c = search needs
@@ -100,7 +100,7 @@ returns-2 c =
     let turn = c .before .loop in
     let args = start (c .before) .args in
     finish _ _ _ _ _ _ _ (turn .inv .so-far)
-    (cuts-full (args .lengths .now) (drop (turn .at) (args .events .now)) (length (args .answers .now)) (turn .count) (omega (arith, c .loop-test .left, turn .inv .so-far .long)))
+    (cuts-full (args .lengths .now) (drop (turn .from) (args .events .now)) (length (args .answers .now)) (turn .count) (omega (arith, c .loop-test .left, turn .inv .so-far .long)))
 
 pub run-list-spec : {M : Type 1} → statement M
 run-list-spec =
