@@ -55,3 +55,8 @@ pub fn position(price: u32) -> Option<u32> {
 pub fn price(position: u32) -> Option<u32> {
     Some(library::price(position)).filter(|&price| price != 0)
 }
+
+/// The README's Rust compiles and runs as printed.
+#[cfg(doctest)]
+#[doc = include_str!("../../../README.md")]
+struct Readme;
