@@ -1,8 +1,8 @@
 /*
  * Holds the numbers of guvontsira.h to the library: events are built by the
  * header's places and codes, words are read by its places, and each answer is
- * compared with its name. What agrees is listed with its number, so that
- * header.expected, written from paper 01, holds the numbers themselves.
+ * compared with its name. What agrees is listed with its number; those in
+ * header.expected are the numbers of paper 01.
  *
  *     cc -std=c11 -Wall -Wextra -Werror -I include examples/c/header.c \
  *        target/staticlib/libguvontsira.a -o target/header && target/header
@@ -181,38 +181,37 @@ static void sizes(void)
     }
 }
 
+struct kind {
+    const char *kind_name, *length_name;
+    uint8_t kind;
+    size_t length;
+};
+
+#define KIND(name) \
+    {"KIND_" #name, #name "_LENGTH", GUVONTSIRA_KIND_##name, GUVONTSIRA_##name##_LENGTH}
+
+static const struct kind kinds[] = {KIND(CLOCK), KIND(SESSION), KIND(SETUP), KIND(PRICES),
+                                    KIND(ORDER), KIND(CANCEL),  KIND(MATCH)};
+
 /* Events of each kind, otherwise zero: one byte more and one fewer is refused. */
 static void lengths(void)
 {
-    static const struct {
-        const char *name;
-        uint8_t kind;
-        size_t length;
-    } kinds[] = {
-        {"KIND_CLOCK", GUVONTSIRA_KIND_CLOCK, GUVONTSIRA_CLOCK_LENGTH},
-        {"KIND_SESSION", GUVONTSIRA_KIND_SESSION, GUVONTSIRA_SESSION_LENGTH},
-        {"KIND_SETUP", GUVONTSIRA_KIND_SETUP, GUVONTSIRA_SETUP_LENGTH},
-        {"KIND_PRICES", GUVONTSIRA_KIND_PRICES, GUVONTSIRA_PRICES_LENGTH},
-        {"KIND_ORDER", GUVONTSIRA_KIND_ORDER, GUVONTSIRA_ORDER_LENGTH},
-        {"KIND_CANCEL", GUVONTSIRA_KIND_CANCEL, GUVONTSIRA_CANCEL_LENGTH},
-        {"KIND_MATCH", GUVONTSIRA_KIND_MATCH, GUVONTSIRA_MATCH_LENGTH},
-    };
     uint8_t events[COUNT(kinds) * GUVONTSIRA_ORDER_LENGTH] = {0};
     uint32_t answers[COUNT(kinds) + 1];
     uint8_t *end = events;
-    for (size_t i = 0; i < COUNT(kinds); i++) {
-        end[0] = kinds[i].kind;
-        same(kinds[i].name, kinds[i].kind, GUVONTSIRA_REFUSED_LENGTH,
-             hand_in(end, kinds[i].length - 1));
-        same("length", kinds[i].length, GUVONTSIRA_REFUSED_LENGTH,
-             hand_in(end, kinds[i].length + 1));
-        end += kinds[i].length;
+    for (const struct kind *kind = kinds; kind < kinds + COUNT(kinds); kind++) {
+        end[0] = kind->kind;
+        same(kind->kind_name, kind->kind, GUVONTSIRA_REFUSED_LENGTH,
+             hand_in(end, kind->length - 1));
+        same(kind->length_name, kind->length, GUVONTSIRA_REFUSED_LENGTH,
+             hand_in(end, kind->length + 1));
+        end += kind->length;
     }
     const size_t handled = guvontsira_run(words, COUNT(words), events, (size_t)(end - events),
                                           answers, COUNT(answers));
-    same("one after another", COUNT(kinds), COUNT(kinds), handled);
+    same("events of zeros", handled, COUNT(kinds), handled);
     for (size_t i = 0; i < handled; i++) {
-        printf("%s %u\n", kinds[i].name, (unsigned)answers[i]);
+        printf("answer %u\n", (unsigned)answers[i]);
     }
     ANSWERS(REFUSED_LENGTH, hand_in(events, 0));
     events[0] = COUNT(kinds) + 1;
