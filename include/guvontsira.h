@@ -9,10 +9,13 @@
  * what it was lent for writing; a refusal (1 to 99) changes no word.
  *
  * Owed by the caller: each pointer is valid for the length that follows it
- * (in words for uint32_t, in bytes for uint8_t); the words, the bytes and the
- * answers do not overlap; nobody else writes them during a call.
+ * (in words for uint32_t, in bytes for uint8_t) and aligned for its type, also
+ * where that length is 0: never null. The words, the bytes and the answers do
+ * not overlap, and nobody else reads or writes the words and the answers, or
+ * writes the bytes, during a call. So one state must not be used by two calls
+ * at once; calls on different states may run at the same time.
  *
- * Link with libguvontsira.a.
+ * Link with libguvontsira.a, which needs only memcpy and memset.
  */
 #ifndef GUVONTSIRA_H
 #define GUVONTSIRA_H
@@ -26,17 +29,22 @@ extern "C" {
 
 #define GUVONTSIRA_MAX_CUSTOMERS 256
 #define GUVONTSIRA_MAX_SECURITIES 1024
-#define GUVONTSIRA_HEADER_WORDS 4
-#define GUVONTSIRA_SECURITY_WORDS 13
-#define GUVONTSIRA_DESK_WORDS 291
+#define GUVONTSIRA_MAX_TIME 86399999 /* milliseconds since midnight */
 
-/* How many words a state has; a constant where both counts are. */
-#define GUVONTSIRA_WORD_COUNT(customers, securities)            \
-    ((size_t)GUVONTSIRA_HEADER_WORDS                            \
-     + (size_t)GUVONTSIRA_SECURITY_WORDS * (size_t)(securities) \
-     + (size_t)GUVONTSIRA_DESK_WORDS * (size_t)(customers))
+/*
+ * Events. The first byte is the kind, and the kind fixes the length, the kind
+ * byte included.
+ */
+enum guvontsira_kind {
+    GUVONTSIRA_KIND_CLOCK = 1,
+    GUVONTSIRA_KIND_SESSION = 2,
+    GUVONTSIRA_KIND_SETUP = 3,
+    GUVONTSIRA_KIND_PRICES = 4,
+    GUVONTSIRA_KIND_ORDER = 5,
+    GUVONTSIRA_KIND_CANCEL = 6,
+    GUVONTSIRA_KIND_MATCH = 7
+};
 
-/* How many bytes an event of each kind has, its kind byte included. */
 #define GUVONTSIRA_CLOCK_LENGTH 5
 #define GUVONTSIRA_SESSION_LENGTH 2
 #define GUVONTSIRA_SETUP_LENGTH 14
@@ -44,6 +52,160 @@ extern "C" {
 #define GUVONTSIRA_ORDER_LENGTH 21
 #define GUVONTSIRA_CANCEL_LENGTH 7
 #define GUVONTSIRA_MATCH_LENGTH 11
+
+/*
+ * The byte of the event at which each field begins; beside it the field's width
+ * in bytes. Fields are little-endian. Prices are in satang, and 0 is an absent
+ * one.
+ */
+enum guvontsira_event_byte {
+    /* 1 clock */
+    GUVONTSIRA_CLOCK_TIME_BYTE = 1,        /* 4: at most GUVONTSIRA_MAX_TIME */
+    /* 2 session */
+    GUVONTSIRA_SESSION_CODE_BYTE = 1,      /* 1: enum guvontsira_session */
+    /* 3 setup */
+    GUVONTSIRA_SETUP_SECURITY_BYTE = 1,    /* 2: from 0 */
+    GUVONTSIRA_SETUP_LOT_BYTE = 3,         /* 1: 1, 50 or 100 */
+    GUVONTSIRA_SETUP_FREE_BYTE = 4,        /* 1: 1 is no ceiling and floor */
+    GUVONTSIRA_SETUP_FIRST_DAY_BYTE = 5,   /* 1: 0 or 1 */
+    GUVONTSIRA_SETUP_PRIOR_CLOSE_BYTE = 6, /* 4 */
+    GUVONTSIRA_SETUP_IPO_BYTE = 10,        /* 4: also off the ladder */
+    /* 4 prices */
+    GUVONTSIRA_PRICES_SECURITY_BYTE = 1,   /* 2: from 0 */
+    GUVONTSIRA_PRICES_BOARD_BYTE = 3,      /* 1: enum guvontsira_board */
+    GUVONTSIRA_PRICES_PROJECTED_BYTE = 4,  /* 4 */
+    GUVONTSIRA_PRICES_LAST_BYTE = 8,       /* 4 */
+    GUVONTSIRA_PRICES_BID_BYTE = 12,       /* 4 */
+    GUVONTSIRA_PRICES_OFFER_BYTE = 16,     /* 4 */
+    /* 5 order */
+    GUVONTSIRA_ORDER_CUSTOMER_BYTE = 1,    /* 2: from 0 */
+    GUVONTSIRA_ORDER_NUMBER_BYTE = 3,      /* 4: not 0 */
+    GUVONTSIRA_ORDER_SECURITY_BYTE = 7,    /* 2: from 0 */
+    GUVONTSIRA_ORDER_BOARD_BYTE = 9,       /* 1: enum guvontsira_board */
+    GUVONTSIRA_ORDER_SIDE_BYTE = 10,       /* 1: enum guvontsira_side */
+    GUVONTSIRA_ORDER_TYPE_BYTE = 11,       /* 1: enum guvontsira_type */
+    GUVONTSIRA_ORDER_CHANNEL_BYTE = 12,    /* 1: enum guvontsira_channel */
+    GUVONTSIRA_ORDER_PRICE_BYTE = 13,      /* 4: 0 unless a limit */
+    GUVONTSIRA_ORDER_VOLUME_BYTE = 17,     /* 4 */
+    /* 6 cancel */
+    GUVONTSIRA_CANCEL_CUSTOMER_BYTE = 1,   /* 2: from 0 */
+    GUVONTSIRA_CANCEL_NUMBER_BYTE = 3,     /* 4: not 0 */
+    /* 7 match */
+    GUVONTSIRA_MATCH_CUSTOMER_BYTE = 1,    /* 2: from 0 */
+    GUVONTSIRA_MATCH_NUMBER_BYTE = 3,      /* 4: not 0 */
+    GUVONTSIRA_MATCH_VOLUME_BYTE = 7       /* 4 */
+};
+
+/* Codes, the same in events and in words. */
+enum guvontsira_session {
+    GUVONTSIRA_SESSION_CLOSED = 0,
+    GUVONTSIRA_SESSION_PRE_OPEN = 1,
+    GUVONTSIRA_SESSION_OPEN = 2,
+    GUVONTSIRA_SESSION_BREAK = 3,
+    GUVONTSIRA_SESSION_PRE_CLOSE = 4
+};
+
+enum guvontsira_board {
+    GUVONTSIRA_BOARD_MAIN = 0,
+    GUVONTSIRA_BOARD_FOREIGN = 1
+};
+
+enum guvontsira_side {
+    GUVONTSIRA_SIDE_BUY = 0,
+    GUVONTSIRA_SIDE_SELL = 1
+};
+
+enum guvontsira_type {
+    GUVONTSIRA_TYPE_LIMIT = 0,
+    GUVONTSIRA_TYPE_ATO = 1,
+    GUVONTSIRA_TYPE_ATC = 2,
+    GUVONTSIRA_TYPE_MP = 3 /* market price; never in a row */
+};
+
+enum guvontsira_channel {
+    GUVONTSIRA_CHANNEL_FRONT_OFFICE = 0,
+    GUVONTSIRA_CHANNEL_ONLINE = 1,
+    GUVONTSIRA_CHANNEL_DMA = 2
+};
+
+/* Of a row. */
+enum guvontsira_mark {
+    GUVONTSIRA_MARK_FREE = 0,
+    GUVONTSIRA_MARK_OPEN = 1,
+    GUVONTSIRA_MARK_CANCELLED = 2
+};
+
+/*
+ * The words of a state, for reading: the header, then the securities, then a
+ * desk for each customer, which is three counters and 32 rows. Rows stand in
+ * order of acceptance, and free rows, all zero, come last.
+ */
+#define GUVONTSIRA_HEADER_WORDS 4
+#define GUVONTSIRA_SECURITY_WORDS 13
+#define GUVONTSIRA_ROW_WORDS 9
+#define GUVONTSIRA_DESK_ROWS 32
+#define GUVONTSIRA_DESK_WORDS 291
+
+/* The first word of a security, of a customer's desk and of its row. */
+#define GUVONTSIRA_SECURITY_START(security) \
+    ((size_t)GUVONTSIRA_HEADER_WORDS        \
+     + (size_t)GUVONTSIRA_SECURITY_WORDS * (size_t)(security))
+#define GUVONTSIRA_DESK_START(securities, customer) \
+    (GUVONTSIRA_SECURITY_START(securities)          \
+     + (size_t)GUVONTSIRA_DESK_WORDS * (size_t)(customer))
+#define GUVONTSIRA_ROW_START(securities, customer, row) \
+    (GUVONTSIRA_DESK_START(securities, customer)        \
+     + (size_t)GUVONTSIRA_DESK_ROWS_WORD                \
+     + (size_t)GUVONTSIRA_ROW_WORDS * (size_t)(row))
+
+/* How many words a state has; a constant where both counts are. */
+#define GUVONTSIRA_WORD_COUNT(customers, securities) \
+    GUVONTSIRA_DESK_START(securities, customers)
+
+/* Where each word stands, from the start of the state and of each record. */
+enum guvontsira_header_word {
+    GUVONTSIRA_HEADER_CUSTOMERS_WORD = 0,
+    GUVONTSIRA_HEADER_SECURITIES_WORD = 1,
+    GUVONTSIRA_HEADER_CLOCK_WORD = 2,
+    GUVONTSIRA_HEADER_SESSION_WORD = 3
+};
+
+enum guvontsira_security_word {
+    GUVONTSIRA_SECURITY_LOT_WORD = 0,
+    GUVONTSIRA_SECURITY_FREE_WORD = 1,
+    GUVONTSIRA_SECURITY_FIRST_DAY_WORD = 2,
+    GUVONTSIRA_SECURITY_PRIOR_CLOSE_WORD = 3,
+    GUVONTSIRA_SECURITY_IPO_WORD = 4,
+    GUVONTSIRA_SECURITY_MAIN_WORD = 5,   /* the main board's four prices */
+    GUVONTSIRA_SECURITY_FOREIGN_WORD = 9 /* the foreign board's */
+};
+
+/* From the start of a board's four prices. */
+enum guvontsira_board_word {
+    GUVONTSIRA_BOARD_PROJECTED_WORD = 0,
+    GUVONTSIRA_BOARD_LAST_WORD = 1,
+    GUVONTSIRA_BOARD_BID_WORD = 2,
+    GUVONTSIRA_BOARD_OFFER_WORD = 3
+};
+
+enum guvontsira_desk_word {
+    GUVONTSIRA_DESK_ACCEPTED_WORD = 0, /* a counter stays at 4,294,967,295 */
+    GUVONTSIRA_DESK_WARNED_WORD = 1,
+    GUVONTSIRA_DESK_REJECTED_WORD = 2,
+    GUVONTSIRA_DESK_ROWS_WORD = 3
+};
+
+enum guvontsira_row_word {
+    GUVONTSIRA_ROW_MARK_WORD = 0,
+    GUVONTSIRA_ROW_NUMBER_WORD = 1,
+    GUVONTSIRA_ROW_SECURITY_WORD = 2,
+    GUVONTSIRA_ROW_BOARD_WORD = 3,
+    GUVONTSIRA_ROW_SIDE_WORD = 4,
+    GUVONTSIRA_ROW_TYPE_WORD = 5,
+    GUVONTSIRA_ROW_PRICE_WORD = 6,       /* 0 unless a limit */
+    GUVONTSIRA_ROW_VOLUME_WORD = 7,      /* what is left of it */
+    GUVONTSIRA_ROW_CANCEL_TIME_WORD = 8  /* 0 while the row is open */
+};
 
 /* Answers. A refusal number says which condition was found first. */
 enum guvontsira_answer {

@@ -1,34 +1,6 @@
 //! One customer's counters and rows, read out of a state's words.
 
-macro_rules! codes {
-    ($(#[$doc:meta])* $name:ident { $($variant:ident = $code:literal),+ $(,)? }) => {
-        $(#[$doc])*
-        #[derive(Clone, Copy, Debug, PartialEq, Eq, Hash)]
-        pub enum $name {
-            $($variant = $code),+
-        }
-
-        impl $name {
-            fn from_code(code: u32) -> Option<Self> {
-                match code {
-                    $($code => Some(Self::$variant),)+
-                    _ => None,
-                }
-            }
-        }
-    };
-}
-
-codes!(
-    /// Of a row that is not free.
-    Mark { Open = 1, Cancelled = 2 }
-);
-codes!(Board { Main = 0, Foreign = 1 });
-codes!(Side { Buy = 0, Sell = 1 });
-codes!(
-    /// A row's type of order.
-    OrderType { Limit = 0, Ato = 1, Atc = 2 }
-);
+use crate::codes::{Board, Mark, OrderType, Side};
 
 /// A marked row of a desk.
 #[derive(Clone, Copy, Debug, PartialEq, Eq)]
@@ -38,6 +10,7 @@ pub struct Row {
     pub security: u32,
     pub board: Board,
     pub side: Side,
+    /// Never `Mp`.
     pub order_type: OrderType,
     /// In satang; 0 for ATO and ATC.
     pub price: u32,
@@ -116,7 +89,7 @@ impl Row {
             security,
             board: Board::from_code(board)?,
             side: Side::from_code(side)?,
-            order_type: OrderType::from_code(order_type)?,
+            order_type: OrderType::from_code(order_type).filter(|&code| code != OrderType::Mp)?,
             price,
             volume,
             cancel_time,

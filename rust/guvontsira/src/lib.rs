@@ -3,14 +3,14 @@
 //! calls safe and gives its numbers types.
 //!
 //! ```
-//! use guvontsira::{Answer, State};
+//! use guvontsira::{Answer, Event, Session, State};
 //!
 //! let mut state = State::new(8, 16)?;
-//! // Kind 2: the open session.
-//! assert_eq!(state.handle(&[2, 2]), Answer::Ok);
-//! // Kind 6: customer 0 cancels order 1, which was never entered.
-//! let cancel = state.handle(&[6, 0, 0, 1, 0, 0, 0]);
-//! assert_eq!(cancel.to_string(), "refused 10");
+//! let open = Event::Session { session: Session::Open };
+//! assert_eq!(state.handle(&open.bytes()), Answer::Ok);
+//! // Order 1 was never entered.
+//! let cancel = Event::Cancel { customer: 0, number: 1 };
+//! assert_eq!(state.handle(&cancel.bytes()).to_string(), "refused 10");
 //! # Ok::<(), guvontsira::Refused>(())
 //! ```
 //!
@@ -22,13 +22,17 @@
 #![warn(missing_debug_implementations)]
 
 mod answer;
+mod codes;
 mod desk;
+mod event;
 #[allow(unsafe_code)]
 pub mod library;
 mod state;
 
 pub use answer::{Answer, Refused, Rule};
-pub use desk::{Board, Desk, Mark, OrderType, Row, Side};
+pub use codes::{Board, Channel, Mark, OrderType, Session, Side};
+pub use desk::{Desk, Row};
+pub use event::Event;
 pub use state::State;
 
 /// The ladder position of a price in satang; `None` if it is off the ladder.
@@ -51,3 +55,8 @@ pub fn position(price: u32) -> Option<u32> {
 pub fn price(position: u32) -> Option<u32> {
     Some(library::price(position)).filter(|&price| price != 0)
 }
+
+/// The README's Rust compiles and runs as printed.
+#[cfg(doctest)]
+#[doc = include_str!("../../../README.md")]
+struct Readme;

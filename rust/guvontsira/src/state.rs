@@ -9,20 +9,30 @@ use crate::library;
 /// The state of one trading day.
 ///
 /// ```
-/// use guvontsira::{Answer, Rule, State};
+/// use guvontsira::{Answer, Board, Channel, Event, OrderType, Rule, Session, Side, State};
 ///
 /// let mut state = State::new(8, 16)?;
-/// let buy = events::encode("order 0 no 1 security 0 main buy limit 50.00 x 100 online")?;
-/// assert_eq!(state.handle(&buy), Answer::Reject(Rule::S));
+/// let buy = Event::Order {
+///     customer: 0,
+///     number: 1,
+///     security: 0,
+///     board: Board::Main,
+///     side: Side::Buy,
+///     order_type: OrderType::Limit,
+///     channel: Channel::Online,
+///     price: 50_00,
+///     volume: 100,
+/// };
+/// assert_eq!(state.handle(&buy.bytes()), Answer::Reject(Rule::S));
 ///
-/// let open = events::encode("session open")?;
-/// assert_eq!(state.handle(&open), Answer::Ok);
-/// assert_eq!(state.handle(&buy), Answer::Accept);
+/// let open = Event::Session { session: Session::Open };
+/// assert_eq!(state.handle(&open.bytes()), Answer::Ok);
+/// assert_eq!(state.handle(&buy.bytes()), Answer::Accept);
 ///
 /// let desk = state.desk(0).expect("there are customers 0 to 7");
 /// assert_eq!((desk.accepted, desk.rejected), (1, 1));
 /// assert_eq!(desk.rows[0].price, 50_00);
-/// # Ok::<(), Box<dyn std::error::Error>>(())
+/// # Ok::<(), guvontsira::Refused>(())
 /// ```
 #[derive(Clone, PartialEq, Eq)]
 pub struct State {
@@ -68,12 +78,14 @@ impl State {
     /// left.
     ///
     /// ```
-    /// use guvontsira::{Answer, State};
+    /// use guvontsira::{Answer, Event, Session, State};
     ///
     /// let mut state = State::new(1, 1)?;
-    /// let events = events::encode("session open\ncancel 0 no 1")?;
+    /// let mut events = Vec::new();
+    /// Event::Session { session: Session::Open }.append_to(&mut events);
+    /// Event::Cancel { customer: 0, number: 1 }.append_to(&mut events);
     /// assert_eq!(state.run(&events), [Answer::Ok, Answer::Refused(10)]);
-    /// # Ok::<(), Box<dyn std::error::Error>>(())
+    /// # Ok::<(), guvontsira::Refused>(())
     /// ```
     ///
     /// # Panics

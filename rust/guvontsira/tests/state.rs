@@ -118,13 +118,15 @@ fn words_kept_and_damaged() {
         assert_eq!(damaged.run(&[2, 2, 2]), [Answer::Refused(1); 2]);
         assert_eq!(damaged.desk(0), None);
     }
-    // The board of customer 0's first row.
-    let mut words = state.words().to_vec();
-    words[4 + 13 * 3 + 3 + 3] = 2;
-    let mut damaged = State::from_words(words);
-    assert_eq!(damaged.desk(0), None);
-    assert!(damaged.desk(1).is_some());
-    assert_eq!(damaged.handle(&[2, 2]), Answer::Refused(8));
+    // Board and type of customer 0's first row; 3 is MP, which has no row.
+    for (place, code) in [(3, 2), (5, 3)] {
+        let mut words = state.words().to_vec();
+        words[4 + 13 * 3 + 3 + place] = code;
+        let mut damaged = State::from_words(words);
+        assert_eq!(damaged.desk(0), None);
+        assert!(damaged.desk(1).is_some());
+        assert_eq!(damaged.handle(&[2, 2]), Answer::Refused(8));
+    }
 }
 
 #[test]

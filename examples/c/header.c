@@ -1,0 +1,436 @@
+/*
+ * Holds the numbers of guvontsira.h to the library: events are built by the
+ * header's places and codes, words are read by its places, and each answer is
+ * compared with its name. What agrees is listed with its number; those in
+ * header.expected are the numbers of paper 01.
+ *
+ *     cc -std=c11 -Wall -Wextra -Werror -I include examples/c/header.c \
+ *        target/staticlib/libguvontsira.a -o target/header && target/header
+ */
+#include <stdio.h>
+#include <stdlib.h>
+#include <string.h>
+
+#include "guvontsira.h"
+
+enum { CUSTOMERS = 3, SECURITIES = 5, NOON = 43200000 };
+
+static uint32_t words[GUVONTSIRA_WORD_COUNT(CUSTOMERS, SECURITIES)];
+static uint32_t most_words[GUVONTSIRA_WORD_COUNT(GUVONTSIRA_MAX_CUSTOMERS,
+                                                 GUVONTSIRA_MAX_SECURITIES)];
+
+#define COUNT(array) (sizeof(array) / sizeof(array)[0])
+
+static int status = EXIT_SUCCESS;
+
+static void same(const char *name, size_t number, size_t expected, size_t found)
+{
+    if (expected == found) {
+        printf("%s %zu\n", name, number);
+    } else {
+        printf("%s %zu: expected %zu, found %zu\n", name, number, expected, found);
+        status = EXIT_FAILURE;
+    }
+}
+
+/* The library's answer is the one of this name. */
+#define ANSWERS(name, answer) same(#name, GUVONTSIRA_##name, GUVONTSIRA_##name, answer)
+
+/* What an event set, or the library counted, stands at the word of this name. */
+#define STANDS(name, start, expected) \
+    same(#name, GUVONTSIRA_##name, expected, words[(start) + GUVONTSIRA_##name])
+
+/* What is expected if the library means the same by this name's number. */
+#define MEANS(name, expected, found) same(#name, GUVONTSIRA_##name, expected, found)
+
+static void put(uint8_t *place, uint32_t value, int width)
+{
+    for (int byte = 0; byte < width; byte++) {
+        place[byte] = (uint8_t)(value >> 8 * byte);
+    }
+}
+
+static uint32_t hand_in(const uint8_t *event, size_t length)
+{
+    return guvontsira_handle(words, COUNT(words), event, length);
+}
+
+static uint32_t clock_event(uint32_t time)
+{
+    uint8_t event[GUVONTSIRA_CLOCK_LENGTH] = {GUVONTSIRA_KIND_CLOCK};
+    put(event + GUVONTSIRA_CLOCK_TIME_BYTE, time, 4);
+    return hand_in(event, sizeof event);
+}
+
+static uint32_t session(uint8_t code)
+{
+    uint8_t event[GUVONTSIRA_SESSION_LENGTH] = {GUVONTSIRA_KIND_SESSION};
+    event[GUVONTSIRA_SESSION_CODE_BYTE] = code;
+    return hand_in(event, sizeof event);
+}
+
+struct setup {
+    uint16_t security;
+    uint8_t lot, free, first_day;
+    uint32_t prior_close, ipo;
+};
+
+static uint32_t setup(struct setup fields)
+{
+    uint8_t event[GUVONTSIRA_SETUP_LENGTH] = {GUVONTSIRA_KIND_SETUP};
+    put(event + GUVONTSIRA_SETUP_SECURITY_BYTE, fields.security, 2);
+    event[GUVONTSIRA_SETUP_LOT_BYTE] = fields.lot;
+    event[GUVONTSIRA_SETUP_FREE_BYTE] = fields.free;
+    event[GUVONTSIRA_SETUP_FIRST_DAY_BYTE] = fields.first_day;
+    put(event + GUVONTSIRA_SETUP_PRIOR_CLOSE_BYTE, fields.prior_close, 4);
+    put(event + GUVONTSIRA_SETUP_IPO_BYTE, fields.ipo, 4);
+    return hand_in(event, sizeof event);
+}
+
+struct prices {
+    uint16_t security;
+    uint8_t board;
+    uint32_t projected, last, bid, offer;
+};
+
+static uint32_t prices(struct prices fields)
+{
+    uint8_t event[GUVONTSIRA_PRICES_LENGTH] = {GUVONTSIRA_KIND_PRICES};
+    put(event + GUVONTSIRA_PRICES_SECURITY_BYTE, fields.security, 2);
+    event[GUVONTSIRA_PRICES_BOARD_BYTE] = fields.board;
+    put(event + GUVONTSIRA_PRICES_PROJECTED_BYTE, fields.projected, 4);
+    put(event + GUVONTSIRA_PRICES_LAST_BYTE, fields.last, 4);
+    put(event + GUVONTSIRA_PRICES_BID_BYTE, fields.bid, 4);
+    put(event + GUVONTSIRA_PRICES_OFFER_BYTE, fields.offer, 4);
+    return hand_in(event, sizeof event);
+}
+
+struct order {
+    uint16_t customer;
+    uint32_t number;
+    uint16_t security;
+    uint8_t board, side, type, channel;
+    uint32_t price, volume;
+};
+
+static uint32_t order(struct order fields)
+{
+    uint8_t event[GUVONTSIRA_ORDER_LENGTH] = {GUVONTSIRA_KIND_ORDER};
+    put(event + GUVONTSIRA_ORDER_CUSTOMER_BYTE, fields.customer, 2);
+    put(event + GUVONTSIRA_ORDER_NUMBER_BYTE, fields.number, 4);
+    put(event + GUVONTSIRA_ORDER_SECURITY_BYTE, fields.security, 2);
+    event[GUVONTSIRA_ORDER_BOARD_BYTE] = fields.board;
+    event[GUVONTSIRA_ORDER_SIDE_BYTE] = fields.side;
+    event[GUVONTSIRA_ORDER_TYPE_BYTE] = fields.type;
+    event[GUVONTSIRA_ORDER_CHANNEL_BYTE] = fields.channel;
+    put(event + GUVONTSIRA_ORDER_PRICE_BYTE, fields.price, 4);
+    put(event + GUVONTSIRA_ORDER_VOLUME_BYTE, fields.volume, 4);
+    return hand_in(event, sizeof event);
+}
+
+static uint32_t cancel(uint16_t customer, uint32_t number)
+{
+    uint8_t event[GUVONTSIRA_CANCEL_LENGTH] = {GUVONTSIRA_KIND_CANCEL};
+    put(event + GUVONTSIRA_CANCEL_CUSTOMER_BYTE, customer, 2);
+    put(event + GUVONTSIRA_CANCEL_NUMBER_BYTE, number, 4);
+    return hand_in(event, sizeof event);
+}
+
+static uint32_t match(uint16_t customer, uint32_t number, uint32_t volume)
+{
+    uint8_t event[GUVONTSIRA_MATCH_LENGTH] = {GUVONTSIRA_KIND_MATCH};
+    put(event + GUVONTSIRA_MATCH_CUSTOMER_BYTE, customer, 2);
+    put(event + GUVONTSIRA_MATCH_NUMBER_BYTE, number, 4);
+    put(event + GUVONTSIRA_MATCH_VOLUME_BYTE, volume, 4);
+    return hand_in(event, sizeof event);
+}
+
+static void make(void)
+{
+    memset(words, 0xff, sizeof words);
+    if (guvontsira_make(words, COUNT(words), CUSTOMERS, SECURITIES) != GUVONTSIRA_OK) {
+        fputs("no state\n", stdout);
+        exit(EXIT_FAILURE);
+    }
+}
+
+static void sizes(void)
+{
+    const uint32_t customers = GUVONTSIRA_MAX_CUSTOMERS;
+    const uint32_t securities = GUVONTSIRA_MAX_SECURITIES;
+    const size_t count = COUNT(most_words);
+    same("words of the largest state", count, GUVONTSIRA_OK,
+         guvontsira_make(most_words, count, customers, securities));
+    same("a word fewer", count - 1, GUVONTSIRA_REFUSED_STATE,
+         guvontsira_make(most_words, count - 1, customers, securities));
+    MEANS(MAX_CUSTOMERS, GUVONTSIRA_REFUSED_STATE,
+          guvontsira_make(most_words, count, customers + 1, securities));
+    MEANS(MAX_SECURITIES, GUVONTSIRA_REFUSED_STATE,
+          guvontsira_make(most_words, count, customers, securities + 1));
+
+    make();
+    STANDS(HEADER_CUSTOMERS_WORD, 0, CUSTOMERS);
+    STANDS(HEADER_SECURITIES_WORD, 0, SECURITIES);
+    for (size_t word = GUVONTSIRA_SECURITY_START(0); word < COUNT(words); word++) {
+        const size_t place = (word - GUVONTSIRA_HEADER_WORDS) % GUVONTSIRA_SECURITY_WORDS;
+        const int is_lot = word < GUVONTSIRA_DESK_START(SECURITIES, 0)
+                           && place == GUVONTSIRA_SECURITY_LOT_WORD;
+        if (words[word] != (is_lot ? 100 : 0)) {
+            same("word of a fresh state", word, is_lot ? 100 : 0, words[word]);
+        }
+    }
+}
+
+struct kind {
+    const char *kind_name, *length_name;
+    uint8_t kind;
+    size_t length;
+};
+
+#define KIND(name) \
+    {"KIND_" #name, #name "_LENGTH", GUVONTSIRA_KIND_##name, GUVONTSIRA_##name##_LENGTH}
+
+static const struct kind kinds[] = {KIND(CLOCK), KIND(SESSION), KIND(SETUP), KIND(PRICES),
+                                    KIND(ORDER), KIND(CANCEL),  KIND(MATCH)};
+
+/* Events of each kind, otherwise zero: one byte more and one fewer is refused. */
+static void lengths(void)
+{
+    uint8_t events[COUNT(kinds) * GUVONTSIRA_ORDER_LENGTH] = {0};
+    uint32_t answers[COUNT(kinds) + 1];
+    uint8_t *end = events;
+    for (const struct kind *kind = kinds; kind < kinds + COUNT(kinds); kind++) {
+        end[0] = kind->kind;
+        same(kind->kind_name, kind->kind, GUVONTSIRA_REFUSED_LENGTH,
+             hand_in(end, kind->length - 1));
+        same(kind->length_name, kind->length, GUVONTSIRA_REFUSED_LENGTH,
+             hand_in(end, kind->length + 1));
+        end += kind->length;
+    }
+    const size_t handled = guvontsira_run(words, COUNT(words), events, (size_t)(end - events),
+                                          answers, COUNT(answers));
+    same("events of zeros", handled, COUNT(kinds), handled);
+    for (size_t i = 0; i < handled; i++) {
+        printf("answer %u\n", (unsigned)answers[i]);
+    }
+    ANSWERS(REFUSED_LENGTH, hand_in(events, 0));
+    events[0] = COUNT(kinds) + 1;
+    ANSWERS(REFUSED_KIND, hand_in(events, 1));
+}
+
+static void market(void)
+{
+    const uint16_t security = 3;
+    const size_t start = GUVONTSIRA_SECURITY_START(security);
+    const size_t main_board = start + GUVONTSIRA_SECURITY_MAIN_WORD;
+    const size_t foreign_board = start + GUVONTSIRA_SECURITY_FOREIGN_WORD;
+
+    make();
+    ANSWERS(OK, clock_event(NOON));
+    STANDS(HEADER_CLOCK_WORD, 0, NOON);
+    ANSWERS(REFUSED_CLOCK, clock_event(NOON - 1));
+    ANSWERS(REFUSED_CODE, clock_event(GUVONTSIRA_MAX_TIME + 1));
+    MEANS(SESSION_PRE_CLOSE, GUVONTSIRA_OK, session(GUVONTSIRA_SESSION_PRE_CLOSE));
+    STANDS(HEADER_SESSION_WORD, 0, GUVONTSIRA_SESSION_PRE_CLOSE);
+    ANSWERS(REFUSED_CODE, session(GUVONTSIRA_SESSION_PRE_CLOSE + 1));
+
+    ANSWERS(OK, setup((struct setup){security, 50, 1, 0, 65600, 1201}));
+    STANDS(SECURITY_LOT_WORD, start, 50);
+    STANDS(SECURITY_FREE_WORD, start, 1);
+    STANDS(SECURITY_FIRST_DAY_WORD, start, 0);
+    STANDS(SECURITY_PRIOR_CLOSE_WORD, start, 65600);
+    STANDS(SECURITY_IPO_WORD, start, 1201);
+    ANSWERS(REFUSED_NAME, setup((struct setup){SECURITIES, 50, 1, 0, 65600, 1201}));
+    ANSWERS(REFUSED_PRICE, setup((struct setup){security, 50, 1, 0, 1201, 65600}));
+
+    MEANS(BOARD_MAIN, GUVONTSIRA_OK,
+          prices((struct prices){security, GUVONTSIRA_BOARD_MAIN, 5000, 4975, 4950, 5025}));
+    MEANS(BOARD_FOREIGN, GUVONTSIRA_OK,
+          prices((struct prices){security, GUVONTSIRA_BOARD_FOREIGN, 4000, 3975, 3950, 4025}));
+    STANDS(SECURITY_MAIN_WORD, start, 5000);
+    STANDS(BOARD_PROJECTED_WORD, main_board, 5000);
+    STANDS(BOARD_LAST_WORD, main_board, 4975);
+    STANDS(BOARD_BID_WORD, main_board, 4950);
+    STANDS(BOARD_OFFER_WORD, main_board, 5025);
+    STANDS(SECURITY_FOREIGN_WORD, start, 4000);
+    STANDS(BOARD_PROJECTED_WORD, foreign_board, 4000);
+    STANDS(BOARD_LAST_WORD, foreign_board, 3975);
+    STANDS(BOARD_BID_WORD, foreign_board, 3950);
+    STANDS(BOARD_OFFER_WORD, foreign_board, 4025);
+    /* Another session makes the projected prices absent. */
+    MEANS(SESSION_BREAK, GUVONTSIRA_OK, session(GUVONTSIRA_SESSION_BREAK));
+    STANDS(BOARD_PROJECTED_WORD, main_board, 0);
+    STANDS(BOARD_PROJECTED_WORD, foreign_board, 0);
+    MEANS(MAX_TIME, GUVONTSIRA_OK, clock_event(GUVONTSIRA_MAX_TIME));
+}
+
+static uint32_t accepted_if(int in_session)
+{
+    return in_session ? GUVONTSIRA_ACCEPT : GUVONTSIRA_REJECT_S;
+}
+
+/* Each type is accepted in its session and rejected with S in the others. */
+static void types(void)
+{
+    struct order buy = {.number = 1, .volume = 100};
+
+    make();
+    prices((struct prices){.offer = 5000});
+    buy.type = GUVONTSIRA_TYPE_LIMIT;
+    buy.price = 5000;
+    MEANS(SESSION_CLOSED, GUVONTSIRA_REJECT_S, order(buy));
+    session(GUVONTSIRA_SESSION_BREAK);
+    MEANS(SESSION_BREAK, GUVONTSIRA_REJECT_S, order(buy));
+    buy.price = 0;
+    for (uint8_t code = GUVONTSIRA_SESSION_CLOSED; code <= GUVONTSIRA_SESSION_PRE_CLOSE; code++) {
+        session(code);
+        buy.type = GUVONTSIRA_TYPE_ATO;
+        MEANS(TYPE_ATO, accepted_if(code == GUVONTSIRA_SESSION_PRE_OPEN), order(buy));
+        buy.number++;
+        buy.type = GUVONTSIRA_TYPE_ATC;
+        MEANS(TYPE_ATC, accepted_if(code == GUVONTSIRA_SESSION_PRE_CLOSE), order(buy));
+        buy.number++;
+        buy.type = GUVONTSIRA_TYPE_MP;
+        MEANS(TYPE_MP, accepted_if(code == GUVONTSIRA_SESSION_OPEN), order(buy));
+    }
+    /* There is an offer and no bid. */
+    MEANS(SESSION_OPEN, GUVONTSIRA_OK, session(GUVONTSIRA_SESSION_OPEN));
+    MEANS(SIDE_BUY, GUVONTSIRA_ACCEPT, order(buy));
+    buy.side = GUVONTSIRA_SIDE_SELL;
+    ANSWERS(REJECT_S, order(buy));
+    MEANS(SIDE_SELL, GUVONTSIRA_REJECT_S, order(buy));
+    buy.type = GUVONTSIRA_TYPE_MP + 1;
+    ANSWERS(REFUSED_CODE, order(buy));
+}
+
+static void rows(void)
+{
+    const uint16_t customer = 2;
+    const size_t desk = GUVONTSIRA_DESK_START(SECURITIES, customer);
+    const size_t first = GUVONTSIRA_ROW_START(SECURITIES, customer, 0);
+    const size_t second = GUVONTSIRA_ROW_START(SECURITIES, customer, 1);
+    struct order sell = {customer, 70000, 4, GUVONTSIRA_BOARD_MAIN, GUVONTSIRA_SIDE_SELL,
+                         GUVONTSIRA_TYPE_LIMIT, GUVONTSIRA_CHANNEL_DMA, 5025, 300};
+    struct order buy = {customer, 70001, 3, GUVONTSIRA_BOARD_FOREIGN, GUVONTSIRA_SIDE_BUY,
+                        GUVONTSIRA_TYPE_ATC, GUVONTSIRA_CHANNEL_ONLINE, 0, 200};
+
+    make();
+    clock_event(NOON);
+    session(GUVONTSIRA_SESSION_PRE_CLOSE);
+    ANSWERS(ACCEPT, order(sell));
+    STANDS(ROW_MARK_WORD, first, GUVONTSIRA_MARK_OPEN);
+    MEANS(MARK_OPEN, GUVONTSIRA_MARK_OPEN, words[first + GUVONTSIRA_ROW_MARK_WORD]);
+    STANDS(ROW_NUMBER_WORD, first, 70000);
+    STANDS(ROW_SECURITY_WORD, first, 4);
+    STANDS(ROW_BOARD_WORD, first, GUVONTSIRA_BOARD_MAIN);
+    STANDS(ROW_SIDE_WORD, first, GUVONTSIRA_SIDE_SELL);
+    STANDS(ROW_TYPE_WORD, first, GUVONTSIRA_TYPE_LIMIT);
+    MEANS(TYPE_LIMIT, GUVONTSIRA_TYPE_LIMIT, words[first + GUVONTSIRA_ROW_TYPE_WORD]);
+    STANDS(ROW_PRICE_WORD, first, 5025);
+    STANDS(ROW_VOLUME_WORD, first, 300);
+    STANDS(ROW_CANCEL_TIME_WORD, first, 0);
+    ANSWERS(ACCEPT, order(buy));
+    STANDS(ROW_BOARD_WORD, second, GUVONTSIRA_BOARD_FOREIGN);
+    STANDS(ROW_SIDE_WORD, second, GUVONTSIRA_SIDE_BUY);
+    STANDS(ROW_TYPE_WORD, second, GUVONTSIRA_TYPE_ATC);
+    ANSWERS(REFUSED_NUMBER_TAKEN, order(buy));
+
+    ANSWERS(OK, match(customer, 70000, 100));
+    STANDS(ROW_VOLUME_WORD, first, 200);
+    ANSWERS(REFUSED_MATCH_VOLUME, match(customer, 70000, 201));
+    ANSWERS(OK, cancel(customer, 70000));
+    MEANS(MARK_CANCELLED, GUVONTSIRA_MARK_CANCELLED, words[first + GUVONTSIRA_ROW_MARK_WORD]);
+    STANDS(ROW_CANCEL_TIME_WORD, first, NOON);
+    ANSWERS(REFUSED_NO_OPEN_ROW, cancel(customer, 70000));
+    ANSWERS(OK, cancel(customer, 70001));
+    MEANS(MARK_FREE, GUVONTSIRA_MARK_FREE, words[second + GUVONTSIRA_ROW_MARK_WORD]);
+    ANSWERS(REFUSED_NAME, cancel(CUSTOMERS, 70000));
+
+    buy.volume = 1;
+    ANSWERS(REJECT_V, order(buy));
+    STANDS(DESK_ACCEPTED_WORD, desk, 2);
+    STANDS(DESK_WARNED_WORD, desk, 0);
+    STANDS(DESK_REJECTED_WORD, desk, 1);
+
+    words[first + GUVONTSIRA_ROW_BOARD_WORD] = GUVONTSIRA_BOARD_FOREIGN + 1;
+    ANSWERS(REFUSED_RECORD, cancel(customer, 70001));
+    words[GUVONTSIRA_HEADER_SESSION_WORD] = GUVONTSIRA_SESSION_PRE_CLOSE + 1;
+    ANSWERS(REFUSED_STATE, cancel(customer, 70001));
+}
+
+/* The channels differ by warn 10, which skips the front office, and W, online only. */
+static void verdicts(void)
+{
+    const size_t desk = GUVONTSIRA_DESK_START(SECURITIES, 0);
+    struct order buy = {.number = 1, .price = 2650, .volume = 100};
+
+    make();
+    MEANS(SESSION_PRE_OPEN, GUVONTSIRA_OK, session(GUVONTSIRA_SESSION_PRE_OPEN));
+    prices((struct prices){.projected = 2450});
+    buy.channel = GUVONTSIRA_CHANNEL_FRONT_OFFICE;
+    MEANS(CHANNEL_FRONT_OFFICE, GUVONTSIRA_ACCEPT, order(buy));
+    buy.number++;
+    buy.channel = GUVONTSIRA_CHANNEL_DMA;
+    MEANS(CHANNEL_DMA, GUVONTSIRA_WARN_10, order(buy));
+    struct order sell = buy;
+    sell.number++;
+    sell.side = GUVONTSIRA_SIDE_SELL;
+    ANSWERS(WARN_10, order(sell));
+    sell.number++;
+    sell.channel = GUVONTSIRA_CHANNEL_ONLINE;
+    MEANS(CHANNEL_ONLINE, GUVONTSIRA_REJECT_W, order(sell));
+    ANSWERS(REJECT_W, order(sell));
+    sell.channel = GUVONTSIRA_CHANNEL_DMA + 1;
+    ANSWERS(REFUSED_CODE, order(sell));
+
+    /* An IPO price of 10.00 on a first day; then a last sale of 10.00. */
+    buy = (struct order){.number = 11, .security = 1, .volume = 100};
+    setup((struct setup){.security = 1, .lot = 100, .free = 1, .first_day = 1, .ipo = 1000});
+    buy.price = 1510;
+    ANSWERS(REJECT_Q, order(buy));
+    buy.price = 1310;
+    prices((struct prices){.security = 1, .last = 1000});
+    session(GUVONTSIRA_SESSION_OPEN);
+    ANSWERS(WARN_30, order(buy));
+
+    /* 3 million baht again within a minute of a cancel. */
+    buy = (struct order){.number = 21, .security = 2, .channel = GUVONTSIRA_CHANNEL_ONLINE,
+                         .price = 5000, .volume = 100000};
+    ANSWERS(ACCEPT, order(buy));
+    ANSWERS(OK, cancel(0, 21));
+    buy.number++;
+    buy.volume = 60000;
+    ANSWERS(REJECT_P, order(buy));
+    STANDS(DESK_ACCEPTED_WORD, desk, 2);
+    STANDS(DESK_WARNED_WORD, desk, 3);
+    STANDS(DESK_REJECTED_WORD, desk, 4);
+}
+
+static void full_desk(void)
+{
+    const uint16_t customer = 1;
+    struct order buy = {.customer = customer, .price = 5000, .volume = 100};
+
+    make();
+    session(GUVONTSIRA_SESSION_OPEN);
+    do {
+        buy.number++;
+    } while (order(buy) == GUVONTSIRA_ACCEPT);
+    ANSWERS(REFUSED_DESK_FULL, order(buy));
+    MEANS(DESK_ROWS, GUVONTSIRA_DESK_ROWS, buy.number - 1);
+    STANDS(ROW_NUMBER_WORD, GUVONTSIRA_ROW_START(SECURITIES, customer, GUVONTSIRA_DESK_ROWS - 1),
+           GUVONTSIRA_DESK_ROWS);
+    STANDS(DESK_ACCEPTED_WORD, GUVONTSIRA_DESK_START(SECURITIES, customer), GUVONTSIRA_DESK_ROWS);
+}
+
+int main(void)
+{
+    sizes();
+    lengths();
+    market();
+    types();
+    rows();
+    verdicts();
+    full_desk();
+    return status;
+}
