@@ -13,6 +13,7 @@ use crate::program::Program;
 use crate::random::Random;
 use crate::report::{first_wrong, lines};
 use crate::shrink::shrink;
+use crate::wide::{self, Wide};
 use crate::writer::Writer;
 
 /// What demand 3 compares.
@@ -70,8 +71,37 @@ impl View {
     }
 }
 
+/// A history, events to add to it, and the customers to look at.
+struct Subject {
+    customers: u32,
+    securities: u32,
+    history: Vec<Vec<u8>>,
+    added: Vec<Vec<u8>>,
+    watched: Vec<u16>,
+}
+
 pub fn run(program: &mut Program) {
     let mut random = program.random();
+    let subject = match random.below(4) {
+        0 => over_every_desk(&mut random),
+        _ => by_a_few(&mut random),
+    };
+    for &customer in &subject.watched {
+        let view = View {
+            customers: subject.customers,
+            securities: subject.securities,
+            customer: customer.into(),
+        };
+        let original = view.of_gate(&subject.history);
+        compare(program, view, &subject.history, &original);
+        for _ in 0..4 {
+            let varied = vary(&mut random, &view, &subject.history, &subject.added);
+            compare(program, view, &varied, &original);
+        }
+    }
+}
+
+fn by_a_few(random: &mut Random) -> Subject {
     let mixture = &MIXTURES[random.place(MIXTURES.len())];
     let (customers, securities) = match random.below(10) {
         0 => (256, 1 + random.below(4)),
@@ -85,25 +115,37 @@ pub fn run(program: &mut Program) {
     let mut spare = Writer::new(Random::new(random.next()), mixture, customers, securities);
     let mut added = spare.history(length / 2);
     added.extend((0..length / 2).map(|_| writer.event()));
-
     // Two who take part, and one who may not.
-    let taking_part = writer.customers().to_vec();
-    for customer in [
-        random.pick(&taking_part).into(),
-        random.pick(&taking_part).into(),
-        random.below(customers),
-    ] {
-        let view = View {
-            customers,
-            securities,
-            customer,
-        };
-        let original = view.of_gate(&history);
-        compare(program, view, &history, &original);
-        for _ in 0..4 {
-            let varied = vary(&mut random, &view, &history, &added);
-            compare(program, view, &varied, &original);
-        }
+    let watched = vec![
+        random.pick(writer.customers()),
+        random.pick(writer.customers()),
+        random.below(customers) as u16,
+    ];
+    Subject {
+        customers,
+        securities,
+        history,
+        added,
+        watched,
+    }
+}
+
+fn over_every_desk(random: &mut Random) -> Subject {
+    let (customers, securities) = wide::sizes(random);
+    let mut wide = Wide::history(Random::new(random.next()), customers, securities);
+    let added = (0..300).map(|_| wide.writer.event()).collect();
+    // One whose desk was filled, and two others.
+    let watched = vec![
+        random.pick(&wide.full),
+        random.below(customers) as u16,
+        random.below(customers) as u16,
+    ];
+    Subject {
+        customers,
+        securities,
+        history: wide.events,
+        added,
+        watched,
     }
 }
 

@@ -27,6 +27,7 @@ mod script;
 mod shrink;
 mod tally;
 mod volumes;
+mod wide;
 mod writer;
 
 use std::env;
