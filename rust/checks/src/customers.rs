@@ -1,6 +1,6 @@
-//! Demand 3: however the events of other customers, and of nobody, are changed,
-//! added, dropped or moved, one customer's answers and desk and the market's
-//! words stay, and they are those of the lone run.
+//! Demand 3: each customer's answers and desk and the market's words are those of
+//! the lone run; and however the events of other customers, and of nobody, are
+//! changed, added, dropped or moved, they stay.
 
 use guvontsira::library;
 use second::lone::{LoneRun, Owner, belongs};
@@ -24,6 +24,23 @@ struct Seen {
     desk: Vec<u32>,
 }
 
+/// A whole history in the gate: every answer, and the words in the end.
+struct Ran {
+    answers: Vec<u32>,
+    words: Vec<u32>,
+}
+
+impl Ran {
+    fn new(customers: u32, securities: u32, events: &[Vec<u8>]) -> Self {
+        let mut words = fresh(customers, securities);
+        let answers = events
+            .iter()
+            .map(|event| library::handle(&mut words, event))
+            .collect();
+        Ran { answers, words }
+    }
+}
+
 #[derive(Clone, Copy)]
 struct View {
     customers: u32,
@@ -42,20 +59,18 @@ impl View {
 
     /// What the customer sees of a whole history in the gate.
     fn of_gate(&self, events: &[Vec<u8>]) -> Seen {
-        let mut words = fresh(self.customers, self.securities);
-        let mut answers = Vec::new();
-        for event in events {
-            let answer = library::handle(&mut words, event);
-            if self.is_own(event) {
-                answers.push(answer);
-            }
-        }
+        self.of(&Ran::new(self.customers, self.securities, events), events)
+    }
+
+    fn of(&self, ran: &Ran, events: &[Vec<u8>]) -> Seen {
         let securities = self.securities as usize;
         let desk = desk_start(securities, self.customer as usize);
+        let answered = events.iter().zip(&ran.answers);
+        let own = answered.filter(|(event, _)| self.is_own(event));
         Seen {
-            answers,
-            market: words[..desk_start(securities, 0)].to_vec(),
-            desk: words[desk..][..DESK_WORDS].to_vec(),
+            answers: own.map(|(_, &answer)| answer).collect(),
+            market: ran.words[..desk_start(securities, 0)].to_vec(),
+            desk: ran.words[desk..][..DESK_WORDS].to_vec(),
         }
     }
 
@@ -71,7 +86,7 @@ impl View {
     }
 }
 
-/// A history, events to add to it, and the customers to look at.
+/// A history, events to add to it, and the customers for whom it is varied.
 struct Subject {
     customers: u32,
     securities: u32,
@@ -80,24 +95,44 @@ struct Subject {
     watched: Vec<u16>,
 }
 
+impl Subject {
+    fn view(&self, customer: u32) -> View {
+        View {
+            customers: self.customers,
+            securities: self.securities,
+            customer,
+        }
+    }
+}
+
 pub fn run(program: &mut Program) {
     let mut random = program.random();
     let subject = match random.below(4) {
         0 => over_every_desk(&mut random),
         _ => by_a_few(&mut random),
     };
+    every_customer(program, &subject);
     for &customer in &subject.watched {
-        let view = View {
-            customers: subject.customers,
-            securities: subject.securities,
-            customer: customer.into(),
-        };
+        let view = subject.view(customer.into());
         let original = view.of_gate(&subject.history);
         compare(program, view, &subject.history, &original);
         for _ in 0..4 {
             let varied = vary(&mut random, &view, &subject.history, &subject.added);
             compare(program, view, &varied, &original);
         }
+    }
+}
+
+/// The history as it is, for each customer of the state.
+fn every_customer(program: &mut Program, subject: &Subject) {
+    let events = &subject.history;
+    let ran = Ran::new(subject.customers, subject.securities, events);
+    let unlike = (0..subject.customers)
+        .map(|customer| subject.view(customer))
+        .find(|view| view.of(&ran, events) != view.of_lone_run(events));
+    match unlike {
+        Some(view) => compare(program, view, events, &view.of_gate(events)),
+        None => program.holds(format_args!("every customer"), true, String::new),
     }
 }
 
