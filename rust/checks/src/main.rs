@@ -8,6 +8,7 @@ mod counters;
 mod customers;
 mod damage;
 mod damaged_histories;
+mod days;
 mod histories;
 mod ladder;
 mod layout;
@@ -31,6 +32,7 @@ mod wide;
 mod writer;
 
 use std::env;
+use std::fs;
 use std::process::ExitCode;
 
 use arguments::{Arguments, USAGE, Until};
@@ -89,6 +91,15 @@ fn main() -> ExitCode {
             return ExitCode::FAILURE;
         }
     };
+    if let Some(file) = &arguments.write_day {
+        return match fs::write(file, days::day(arguments.seed)) {
+            Ok(()) => ExitCode::SUCCESS,
+            Err(error) => {
+                eprintln!("{}: {error}", file.display());
+                ExitCode::FAILURE
+            }
+        };
+    }
     let names: Vec<&str> = FIXED.iter().chain(&RANDOM).map(|group| group.0).collect();
     if let Some(only) = arguments.only.as_deref()
         && !names.contains(&only)
