@@ -8,7 +8,8 @@ pub const USAGE: &str = "\
 usage: checks [--seed N] [--seconds S | --rounds R] [--from ROUND] [--case NAME]
        checks --write-day FILE [--seed N]
   --seed N       for the random cases (1)
-  --seconds S    go on with random cases until S seconds have passed (60)
+  --seconds S    all fixed cases, then random ones until S seconds have passed
+                 (60), 20 rounds at least
   --rounds R     do R rounds of random cases, however long they take
   --from ROUND   begin with this round of the random cases (0)
   --case NAME    only the cases of this name

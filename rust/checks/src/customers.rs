@@ -105,19 +105,25 @@ impl Subject {
     }
 }
 
+/// One history over every desk, and three times as many by a few.
 pub fn run(program: &mut Program) {
     let mut random = program.random();
-    let subject = match random.below(4) {
-        0 => over_every_desk(&mut random),
-        _ => by_a_few(&mut random),
-    };
-    every_customer(program, &subject);
+    let subject = over_every_desk(&mut random);
+    one(program, &mut random, &subject);
+    for _ in 0..3 {
+        let subject = by_a_few(&mut random);
+        one(program, &mut random, &subject);
+    }
+}
+
+fn one(program: &mut Program, random: &mut Random, subject: &Subject) {
+    every_customer(program, subject);
     for &customer in &subject.watched {
         let view = subject.view(customer.into());
         let original = view.of_gate(&subject.history);
         compare(program, view, &subject.history, &original);
         for _ in 0..4 {
-            let varied = vary(&mut random, &view, &subject.history, &subject.added);
+            let varied = vary(random, &view, &subject.history, &subject.added);
             compare(program, view, &varied, &original);
         }
     }

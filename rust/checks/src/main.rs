@@ -25,6 +25,7 @@ mod repeats;
 mod report;
 mod runs;
 mod script;
+mod shares;
 mod shrink;
 mod tally;
 mod volumes;
@@ -80,7 +81,8 @@ const RANDOM: [Group; 5] = [
     ("random-bytes", lengths::random),
 ];
 
-/// From so many rounds on, every answer must have come in the histories.
+/// From so many rounds on, every answer must have come in the histories. So many
+/// are done however slow the machine is and however long the fixed cases took.
 const ENOUGH_ROUNDS: u64 = 20;
 
 fn main() -> ExitCode {
@@ -138,7 +140,7 @@ fn run(program: &mut Program, arguments: &Arguments) -> u64 {
         rounds += 1;
         random.retain(|group| !program.is_given_up(group.0));
         let is_done = match arguments.until {
-            Until::Elapsed(duration) => program.elapsed() >= duration,
+            Until::Elapsed(duration) => program.elapsed() >= duration && rounds >= ENOUGH_ROUNDS,
             Until::Rounds(count) => rounds >= count,
         };
         if is_done {
