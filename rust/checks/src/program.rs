@@ -223,8 +223,8 @@ impl Program {
     }
 
     /// Says what each group had and how often each answer came. Where all groups
-    /// ran, it is a failure if an answer never came that should have, or came
-    /// that should not.
+    /// ran, it is a failure if one had no case, or an answer never came that
+    /// should have, or came that should not.
     pub fn finish(&mut self, is_whole: bool, enough_histories: bool) {
         print!("{}", self.shares.table());
         print!("{}", tally::table(&self.all, &self.histories));
@@ -232,6 +232,8 @@ impl Program {
             return;
         }
         let mut gaps = self.all.gaps();
+        let idle = self.shares.idle().into_iter();
+        gaps.extend(idle.map(|group| format!("no case of {group} ran")));
         if enough_histories {
             gaps.extend(self.histories.gaps_from_fresh());
         }

@@ -49,6 +49,12 @@ impl Shares {
         self.groups.get_mut(self.current).map(|(_, share)| share)
     }
 
+    /// Groups that were entered and had no case.
+    pub fn idle(&self) -> Vec<&'static str> {
+        let idle = self.groups.iter().filter(|(_, share)| share.cases == 0);
+        idle.map(|(name, _)| *name).collect()
+    }
+
     /// A line for each group, in the order in which they were entered.
     pub fn table(&mut self) -> String {
         self.leave();
@@ -81,6 +87,9 @@ mod tests {
         }
         let cases: Vec<_> = shares.groups.iter().map(|(n, s)| (*n, s.cases)).collect();
         assert_eq!(cases, [("edges", 2), ("histories", 1)]);
-        assert_eq!(shares.table().lines().count(), 3);
+        assert!(shares.idle().is_empty());
+        shares.enter("ladder");
+        assert_eq!(shares.idle(), ["ladder"]);
+        assert_eq!(shares.table().lines().count(), 4);
     }
 }
