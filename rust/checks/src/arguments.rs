@@ -1,15 +1,20 @@
 //! What the program is asked to do.
 
+use std::path::PathBuf;
 use std::str::FromStr;
 use std::time::Duration;
 
 pub const USAGE: &str = "\
 usage: checks [--seed N] [--seconds S | --rounds R] [--from ROUND] [--case NAME]
+       checks --write-day FILE [--seed N]
   --seed N       for the random cases (1)
-  --seconds S    go on with random cases until S seconds have passed (60)
+  --seconds S    all fixed cases, then random ones until S seconds have passed
+                 (60), 20 rounds at least
   --rounds R     do R rounds of random cases, however long they take
   --from ROUND   begin with this round of the random cases (0)
-  --case NAME    only the cases of this name";
+  --case NAME    only the cases of this name
+  --write-day FILE
+                 no cases: write a random day of whole events to this file";
 
 #[derive(Clone, Copy, Debug, PartialEq, Eq)]
 pub enum Until {
@@ -23,6 +28,7 @@ pub struct Arguments {
     pub until: Until,
     pub first_round: u64,
     pub only: Option<String>,
+    pub write_day: Option<PathBuf>,
 }
 
 impl Arguments {
@@ -32,6 +38,7 @@ impl Arguments {
             until: Until::Elapsed(Duration::from_secs(60)),
             first_round: 0,
             only: None,
+            write_day: None,
         };
         let mut words = words.into_iter();
         while let Some(name) = words.next() {
@@ -45,6 +52,7 @@ impl Arguments {
                 "--rounds" => arguments.until = Until::Rounds(number(&value()?)?),
                 "--from" => arguments.first_round = number(&value()?)?,
                 "--case" => arguments.only = Some(value()?),
+                "--write-day" => arguments.write_day = Some(value()?.into()),
                 _ => return Err(format!("unknown argument {name:?}")),
             }
         }
@@ -69,10 +77,14 @@ mod tests {
         let default = parse("").unwrap();
         assert_eq!(default.seed, 1);
         assert_eq!(default.until, Until::Elapsed(Duration::from_secs(60)));
+        assert_eq!(default.write_day, None);
         let all = parse("--case histories --seed 7 --from 3 --rounds 2").unwrap();
         assert_eq!(all.only.as_deref(), Some("histories"));
         assert_eq!((all.seed, all.first_round), (7, 3));
         assert_eq!(all.until, Until::Rounds(2));
+        let day = parse("--write-day day.bin --seed 4").unwrap();
+        assert_eq!(day.write_day, Some("day.bin".into()));
+        assert_eq!(day.seed, 4);
         assert_eq!(parse("--seed").unwrap_err(), "--seed needs a value");
         assert_eq!(parse("--seed x").unwrap_err(), "\"x\" is no number");
         assert_eq!(parse("fast").unwrap_err(), "unknown argument \"fast\"");

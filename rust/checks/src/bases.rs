@@ -89,7 +89,9 @@ fn lines(text: &str) -> Vec<Vec<u8>> {
     events::encode_each(text).unwrap_or_else(|wrong| panic!("{wrong}"))
 }
 
-/// Events of every kind for every record of a base, most of them good.
+/// Events for a base, most of them good: at least one of each kind for each
+/// record that an event of this kind names. Clock and session, which name none,
+/// come as they are and as others.
 pub fn events_for(words: &[u32]) -> Vec<Vec<u8>> {
     let header = Header::read(words).expect("a base is whole");
     let session = header.session as u8;
@@ -103,9 +105,11 @@ pub fn events_for(words: &[u32]) -> Vec<Vec<u8>> {
     events.extend(lines(
         "\
 setup 0 lot 100 free close 50.00
+setup 1 lot 1 first-day close 10.00 ipo 10.01
 setup 2 lot 50
 prices 0 main projected 50.00 last 50.00
 prices 1 foreign offer 10.00
+prices 2 main last 400.00 bid 398.00
 order 0 no 99 security 0 main sell limit 50.00 x 60000 online
 order 0 no 99 security 0 main buy limit 49.75 x 60400 online
 order 0 no 99 security 0 main buy mp x 100 online
@@ -113,14 +117,57 @@ order 0 no 99 security 0 main sell ato x 100 online
 order 0 no 1 security 0 main buy limit 50.00 x 100 front
 order 0 no 99 security 1 foreign sell limit 10.00 x 100 dma
 order 1 no 99 security 1 main buy limit 14.00 x 100 online
+order 1 no 99 security 2 main sell limit 400.00 x 100 dma
 order 0 no 99 security 0 main buy limit 50.00 x 0 dma
 cancel 0 no 1
 cancel 0 no 2
 cancel 1 no 1
 match 0 no 1 x 100
 match 0 no 99 x 1
+match 1 no 1 x 50
 match 1 no 1 x 20000001
 ",
     ));
     events
+}
+
+#[cfg(test)]
+mod tests {
+    use second::event::{Event, decode};
+
+    use super::*;
+
+    /// The kind of an event, and a record that it names.
+    fn named(event: &[u8]) -> Vec<(u8, &'static str, u32)> {
+        let names = match decode(event).unwrap() {
+            Event::Clock { .. } | Event::Session { .. } => vec![],
+            Event::Setup(setup) => vec![("security", setup.security)],
+            Event::Prices(prices) => vec![("security", prices.security)],
+            Event::Order(order) => {
+                vec![("customer", order.customer), ("security", order.security)]
+            }
+            Event::Cancel { customer, .. } | Event::Match { customer, .. } => {
+                vec![("customer", customer)]
+            }
+        };
+        let of_kind = |(record, name): (_, u16)| (event[0], record, name.into());
+        names.into_iter().map(of_kind).collect()
+    }
+
+    #[test]
+    fn every_kind_for_every_record_it_names() {
+        for (_, base) in bases() {
+            let all: Vec<_> = events_for(&base).iter().flat_map(|e| named(e)).collect();
+            for security in 0..SECURITIES {
+                for kind in [3, 4, 5] {
+                    assert!(all.contains(&(kind, "security", security)));
+                }
+            }
+            for customer in 0..CUSTOMERS {
+                for kind in [5, 6, 7] {
+                    assert!(all.contains(&(kind, "customer", customer)));
+                }
+            }
+        }
+    }
 }

@@ -1,6 +1,6 @@
-//! Demand 3: however the events of other customers, and of nobody, are changed,
-//! added, dropped or moved, one customer's answers and desk and the market's
-//! words stay, and they are those of the lone run.
+//! Demand 3: each customer's answers and desk and the market's words are those of
+//! the lone run; and however the events of other customers, and of nobody, are
+//! changed, added, dropped or moved, they stay.
 
 use guvontsira::library;
 use second::lone::{LoneRun, Owner, belongs};
@@ -13,6 +13,7 @@ use crate::program::Program;
 use crate::random::Random;
 use crate::report::{first_wrong, lines};
 use crate::shrink::shrink;
+use crate::wide::{self, Wide};
 use crate::writer::Writer;
 
 /// What demand 3 compares.
@@ -21,6 +22,23 @@ struct Seen {
     answers: Vec<u32>,
     market: Vec<u32>,
     desk: Vec<u32>,
+}
+
+/// A whole history in the gate: every answer, and the words in the end.
+struct Ran {
+    answers: Vec<u32>,
+    words: Vec<u32>,
+}
+
+impl Ran {
+    fn new(customers: u32, securities: u32, events: &[Vec<u8>]) -> Self {
+        let mut words = fresh(customers, securities);
+        let answers = events
+            .iter()
+            .map(|event| library::handle(&mut words, event))
+            .collect();
+        Ran { answers, words }
+    }
 }
 
 #[derive(Clone, Copy)]
@@ -41,20 +59,18 @@ impl View {
 
     /// What the customer sees of a whole history in the gate.
     fn of_gate(&self, events: &[Vec<u8>]) -> Seen {
-        let mut words = fresh(self.customers, self.securities);
-        let mut answers = Vec::new();
-        for event in events {
-            let answer = library::handle(&mut words, event);
-            if self.is_own(event) {
-                answers.push(answer);
-            }
-        }
+        self.of(&Ran::new(self.customers, self.securities, events), events)
+    }
+
+    fn of(&self, ran: &Ran, events: &[Vec<u8>]) -> Seen {
         let securities = self.securities as usize;
         let desk = desk_start(securities, self.customer as usize);
+        let answered = events.iter().zip(&ran.answers);
+        let own = answered.filter(|(event, _)| self.is_own(event));
         Seen {
-            answers,
-            market: words[..desk_start(securities, 0)].to_vec(),
-            desk: words[desk..][..DESK_WORDS].to_vec(),
+            answers: own.map(|(_, &answer)| answer).collect(),
+            market: ran.words[..desk_start(securities, 0)].to_vec(),
+            desk: ran.words[desk..][..DESK_WORDS].to_vec(),
         }
     }
 
@@ -70,8 +86,63 @@ impl View {
     }
 }
 
+/// A history, events to add to it, and the customers for whom it is varied.
+struct Subject {
+    customers: u32,
+    securities: u32,
+    history: Vec<Vec<u8>>,
+    added: Vec<Vec<u8>>,
+    watched: Vec<u16>,
+}
+
+impl Subject {
+    fn view(&self, customer: u32) -> View {
+        View {
+            customers: self.customers,
+            securities: self.securities,
+            customer,
+        }
+    }
+}
+
+/// One history over every desk, and three times as many by a few.
 pub fn run(program: &mut Program) {
     let mut random = program.random();
+    let subject = over_every_desk(&mut random);
+    one(program, &mut random, &subject);
+    for _ in 0..3 {
+        let subject = by_a_few(&mut random);
+        one(program, &mut random, &subject);
+    }
+}
+
+fn one(program: &mut Program, random: &mut Random, subject: &Subject) {
+    every_customer(program, subject);
+    for &customer in &subject.watched {
+        let view = subject.view(customer.into());
+        let original = view.of_gate(&subject.history);
+        compare(program, view, &subject.history, &original);
+        for _ in 0..4 {
+            let varied = vary(random, &view, &subject.history, &subject.added);
+            compare(program, view, &varied, &original);
+        }
+    }
+}
+
+/// The history as it is, for each customer of the state.
+fn every_customer(program: &mut Program, subject: &Subject) {
+    let events = &subject.history;
+    let ran = Ran::new(subject.customers, subject.securities, events);
+    let unlike = (0..subject.customers)
+        .map(|customer| subject.view(customer))
+        .find(|view| view.of(&ran, events) != view.of_lone_run(events));
+    match unlike {
+        Some(view) => compare(program, view, events, &view.of_gate(events)),
+        None => program.holds(format_args!("every customer"), true, String::new),
+    }
+}
+
+fn by_a_few(random: &mut Random) -> Subject {
     let mixture = &MIXTURES[random.place(MIXTURES.len())];
     let (customers, securities) = match random.below(10) {
         0 => (256, 1 + random.below(4)),
@@ -85,25 +156,37 @@ pub fn run(program: &mut Program) {
     let mut spare = Writer::new(Random::new(random.next()), mixture, customers, securities);
     let mut added = spare.history(length / 2);
     added.extend((0..length / 2).map(|_| writer.event()));
-
     // Two who take part, and one who may not.
-    let taking_part = writer.customers().to_vec();
-    for customer in [
-        random.pick(&taking_part).into(),
-        random.pick(&taking_part).into(),
-        random.below(customers),
-    ] {
-        let view = View {
-            customers,
-            securities,
-            customer,
-        };
-        let original = view.of_gate(&history);
-        compare(program, view, &history, &original);
-        for _ in 0..4 {
-            let varied = vary(&mut random, &view, &history, &added);
-            compare(program, view, &varied, &original);
-        }
+    let watched = vec![
+        random.pick(writer.customers()),
+        random.pick(writer.customers()),
+        random.below(customers) as u16,
+    ];
+    Subject {
+        customers,
+        securities,
+        history,
+        added,
+        watched,
+    }
+}
+
+fn over_every_desk(random: &mut Random) -> Subject {
+    let (customers, securities) = wide::sizes(random);
+    let mut wide = Wide::history(Random::new(random.next()), customers, securities);
+    let added = (0..300).map(|_| wide.writer.event()).collect();
+    // One whose desk was filled, and two others.
+    let watched = vec![
+        random.pick(&wide.full),
+        random.below(customers) as u16,
+        random.below(customers) as u16,
+    ];
+    Subject {
+        customers,
+        securities,
+        history: wide.events,
+        added,
+        watched,
     }
 }
 

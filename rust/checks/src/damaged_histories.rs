@@ -1,23 +1,33 @@
-//! Random histories in which words are damaged between the events.
+//! Random histories in which words are damaged between the events, at desks of a
+//! few customers or at any desk of a state in which most have rows.
 
-use second::gate;
 use second::state::{ROW_WORDS, SECURITY_WORDS};
+use second::{encode, gate};
 
 use crate::bases::{bases, events_for};
 use crate::histories::sizes;
-use crate::layout::{fresh, row_start, security_start};
+use crate::layout::{SESSION, fresh, row_start, security_start};
 use crate::mixture::MIXTURES;
 use crate::program::Program;
 use crate::random::Random;
+use crate::wide::{self, Wide};
 use crate::writer::Writer;
 
 /// Each history is damaged so many times.
 const DAMAGES: usize = 40;
+/// Over every desk a session event reads many records, so these are fewer.
+const WIDE_DAMAGES: usize = 8;
 
 pub fn run(program: &mut Program) {
     let mut random = program.random();
+    by_a_few(program, &mut random);
+    over_every_desk(program, &mut random);
+    many_words(program, &mut random);
+}
+
+fn by_a_few(program: &mut Program, random: &mut Random) {
     let mixture = &MIXTURES[random.place(MIXTURES.len())];
-    let (customers, securities, _) = sizes(&mut random);
+    let (customers, securities, _) = sizes(random);
     let mut writer = Writer::new(Random::new(random.next()), mixture, customers, securities);
     let taking_part = writer.customers().to_vec();
     let mut words = fresh(customers, securities);
@@ -28,7 +38,7 @@ pub fn run(program: &mut Program) {
         let mut damaged = words.clone();
         for _ in 0..1 + random.below(3) {
             let customer = random.pick(&taking_part).into();
-            damage_word(&mut random, &mut damaged, securities as usize, customer);
+            damage_word(random, &mut damaged, securities as usize, customer);
         }
         let events: Vec<Vec<u8>> = (0..10).map(|_| writer.event()).collect();
         program.case(
@@ -41,6 +51,32 @@ pub fn run(program: &mut Program) {
             gate::handle(&mut words, event);
         }
     }
+}
+
+/// The two sessions read all records, the damaged one among them.
+fn over_every_desk(program: &mut Program, random: &mut Random) {
+    let (customers, securities) = wide::sizes(random);
+    let mut wide = Wide::history(Random::new(random.next()), customers, securities);
+    let mut words = fresh(customers, securities);
+    for event in &wide.events {
+        gate::handle(&mut words, event);
+    }
+    for damage in 0..WIDE_DAMAGES {
+        let mut damaged = words.clone();
+        let customer = random.place(customers as usize);
+        damage_word(random, &mut damaged, securities as usize, customer);
+        let session = words[SESSION] as u8;
+        let mut events = vec![encode::session(session), encode::session((session + 1) % 5)];
+        events.extend((0..6).map(|_| wide.writer.event()));
+        program.each(
+            format_args!("every desk, {customers} customers, damage {damage}"),
+            &damaged,
+            &events,
+        );
+    }
+}
+
+fn many_words(program: &mut Program, random: &mut Random) {
     for (name, mut words) in bases() {
         let events = events_for(&words);
         for word in &mut words[4..] {

@@ -1,10 +1,15 @@
-//! Long random histories from fresh states.
+//! Long random histories from fresh states. In most a few customers take part,
+//! who come into every corner; in a quarter all of them, over every desk.
 
 use crate::layout::fresh;
 use crate::mixture::{MIXTURES, Mixture};
 use crate::program::Program;
 use crate::random::Random;
+use crate::wide::{self, Wide};
 use crate::writer::Writer;
+
+/// Histories over every desk in a round, beside one of each mixture.
+const WIDE: usize = 2;
 
 /// Customers, securities and events of a random history.
 pub fn sizes(random: &mut Random) -> (u32, u32, usize) {
@@ -17,8 +22,8 @@ pub fn sizes(random: &mut Random) -> (u32, u32, usize) {
     }
 }
 
-/// One history of each mixture; now and then a very long one, or one over the
-/// largest state.
+/// One history of each mixture, and some over every desk; now and then a very
+/// long one, or one over the largest state.
 pub fn run(program: &mut Program) {
     let mut random = program.random();
     for mixture in &MIXTURES {
@@ -30,6 +35,9 @@ pub fn run(program: &mut Program) {
             (customers, securities),
             length,
         );
+    }
+    for _ in 0..WIDE {
+        over_every_desk(program, &mut random);
     }
     let mixture = &MIXTURES[random.place(MIXTURES.len())];
     match random.below(16) {
@@ -55,5 +63,15 @@ fn one(
         ),
         &fresh(customers, securities),
         &events,
+    );
+}
+
+fn over_every_desk(program: &mut Program, random: &mut Random) {
+    let (customers, securities) = wide::sizes(random);
+    let wide = Wide::history(Random::new(random.next()), customers, securities);
+    program.case(
+        format_args!("every desk, {customers} customers, {securities} securities"),
+        &fresh(customers, securities),
+        &wide.events,
     );
 }

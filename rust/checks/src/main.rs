@@ -8,6 +8,7 @@ mod counters;
 mod customers;
 mod damage;
 mod damaged_histories;
+mod days;
 mod histories;
 mod ladder;
 mod layout;
@@ -24,12 +25,15 @@ mod repeats;
 mod report;
 mod runs;
 mod script;
+mod shares;
 mod shrink;
 mod tally;
 mod volumes;
+mod wide;
 mod writer;
 
 use std::env;
+use std::fs;
 use std::process::ExitCode;
 
 use arguments::{Arguments, USAGE, Until};
@@ -77,7 +81,8 @@ const RANDOM: [Group; 5] = [
     ("random-bytes", lengths::random),
 ];
 
-/// From so many rounds on, every answer must have come in the histories.
+/// From so many rounds on, every answer must have come in the histories. So many
+/// are done however slow the machine is and however long the fixed cases took.
 const ENOUGH_ROUNDS: u64 = 20;
 
 fn main() -> ExitCode {
@@ -88,6 +93,15 @@ fn main() -> ExitCode {
             return ExitCode::FAILURE;
         }
     };
+    if let Some(file) = &arguments.write_day {
+        return match fs::write(file, days::day(arguments.seed)) {
+            Ok(()) => ExitCode::SUCCESS,
+            Err(error) => {
+                eprintln!("{}: {error}", file.display());
+                ExitCode::FAILURE
+            }
+        };
+    }
     let names: Vec<&str> = FIXED.iter().chain(&RANDOM).map(|group| group.0).collect();
     if let Some(only) = arguments.only.as_deref()
         && !names.contains(&only)
@@ -126,7 +140,7 @@ fn run(program: &mut Program, arguments: &Arguments) -> u64 {
         rounds += 1;
         random.retain(|group| !program.is_given_up(group.0));
         let is_done = match arguments.until {
-            Until::Elapsed(duration) => program.elapsed() >= duration,
+            Until::Elapsed(duration) => program.elapsed() >= duration && rounds >= ENOUGH_ROUNDS,
             Until::Rounds(count) => rounds >= count,
         };
         if is_done {

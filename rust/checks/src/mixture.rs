@@ -119,3 +119,20 @@ pub const MIXTURES: [Mixture; 6] = [
         channels: &[0, 1, 2],
     },
 ];
+
+/// Between the sessions of a history over every desk, which come apart from it.
+pub const EVERY_DESK: Mixture = Mixture {
+    name: "every desk",
+    kinds: &[
+        (Kind::Clock, 5),
+        (Kind::Setup, 4),
+        (Kind::Prices, 10),
+        (Kind::Order, 45),
+        (Kind::Repeat, 8),
+        (Kind::Cancel, 16),
+        (Kind::Match, 10),
+        (Kind::Malformed, 2),
+    ],
+    sessions: &[],
+    channels: &[0, 1, 1, 2],
+};

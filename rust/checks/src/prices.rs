@@ -48,6 +48,17 @@ pub fn market_price(random: &mut Random, middle: u32) -> u32 {
     }
 }
 
+/// The price of a limit order that few rules have anything against: next to the
+/// price that the market has first.
+pub fn price_near(random: &mut Random, security: &Security, board: Board, middle: u32) -> u32 {
+    let quotes = security.quotes(board);
+    let first = [quotes.projected, quotes.last, security.main.last]
+        .into_iter()
+        .find(|&price| price != 0);
+    let position = first.map_or(middle, position_at_or_below);
+    step(position, random.below(3) as i32 - 1)
+}
+
 /// The price of a limit order: at or near one of the prices it is compared with.
 pub fn limit_price(
     random: &mut Random,

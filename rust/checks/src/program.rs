@@ -7,6 +7,7 @@ use std::time::{Duration, Instant};
 use crate::both::{Both, Difference};
 use crate::random::Random;
 use crate::report;
+use crate::shares::Shares;
 use crate::shrink::shrink;
 use crate::tally::{self, Tally};
 
@@ -28,6 +29,7 @@ pub struct Program {
     pub failed: u64,
     failed_in: HashMap<&'static str, u32>,
     events: u64,
+    shares: Shares,
     all: Tally,
     histories: Tally,
     counts_history: bool,
@@ -46,6 +48,7 @@ impl Program {
             failed: 0,
             failed_in: HashMap::new(),
             events: 0,
+            shares: Shares::new(),
             all: Tally::new(),
             histories: Tally::new(),
             counts_history: false,
@@ -57,6 +60,7 @@ impl Program {
     pub fn enter(&mut self, group: &'static str, round: Option<u64>) {
         self.group = group;
         self.round = round;
+        self.shares.enter(group);
         self.counts_history = group == "histories";
         if round.is_none() {
             // Should the gate never come back, the last line says from where.
@@ -175,14 +179,24 @@ impl Program {
 
     fn count(&mut self, event: &[u8], answer: u32) {
         self.events += 1;
+        if let Some(share) = self.shares.current() {
+            share.events += 1;
+        }
         self.all.add(event, answer);
         if self.counts_history {
             self.histories.add(event, answer);
         }
     }
 
+    fn count_case(&mut self) {
+        if let Some(share) = self.shares.current() {
+            share.cases += 1;
+        }
+    }
+
     fn pass(&mut self) {
         self.passed += 1;
+        self.count_case();
         if self.told.elapsed() >= PROGRESS {
             self.told = Instant::now();
             let seconds = self.elapsed().as_secs();
@@ -198,6 +212,7 @@ impl Program {
 
     fn fail(&mut self, name: fmt::Arguments, detail: &str) {
         self.failed += 1;
+        self.count_case();
         *self.failed_in.entry(self.group).or_default() += 1;
         let (group, seed) = (self.group, self.seed);
         let round = self
@@ -207,14 +222,18 @@ impl Program {
         eprintln!("to repeat: checks --seed {seed} --case {group}{round} --rounds 1\n{detail}\n");
     }
 
-    /// Says how often each answer came. Where all groups ran, it is a failure if
-    /// an answer never came that should have, or came that should not.
+    /// Says what each group had and how often each answer came. Where all groups
+    /// ran, it is a failure if one had no case, or an answer never came that
+    /// should have, or came that should not.
     pub fn finish(&mut self, is_whole: bool, enough_histories: bool) {
+        print!("{}", self.shares.table());
         print!("{}", tally::table(&self.all, &self.histories));
         if !is_whole || self.failed > 0 {
             return;
         }
         let mut gaps = self.all.gaps();
+        let idle = self.shares.idle().into_iter();
+        gaps.extend(idle.map(|group| format!("no case of {group} ran")));
         if enough_histories {
             gaps.extend(self.histories.gaps_from_fresh());
         }

@@ -1,5 +1,7 @@
-//! Rules Q, warn 30 and warn 10: orders on both sides of each bound, from every
-//! reference price up to 400.00 and many above.
+//! Rules Q, warn 30 and warn 10: orders on both sides of each bound, of a free
+//! security, online or DMA, from every reference price up to 400.00 and many
+//! above, whatever the reference is taken from. At every seventh of these prices
+//! also by the front office, and of a security that is not free.
 
 use second::encode;
 use second::event::{Order, Prices, Setup};
@@ -30,32 +32,67 @@ const SOURCES: [Source; 6] = [
     Source::OtherIpo,
 ];
 
+/// What the rules look at beside the price.
+#[derive(Clone, Copy, Debug, PartialEq)]
+enum Pass {
+    /// Online or DMA, which all three rules look at.
+    Free,
+    FreeFrontOffice,
+    NotFree,
+}
+
+impl Pass {
+    /// Channels take turns with the position, apart from the side.
+    fn channel(self, turn: u32) -> u8 {
+        let channel = match self {
+            Pass::Free => 1 + turn / 2 % 2,
+            Pass::FreeFrontOffice => 0,
+            Pass::NotFree => turn % 3,
+        };
+        channel as u8
+    }
+}
+
 pub fn run(program: &mut Program) {
-    let start = fresh(1, 1);
+    let positions = positions();
+    for &position in &positions {
+        from_position(program, position, Pass::Free);
+    }
+    // A step without 2 and 3 in it: sides and channels take turns here too.
+    for &position in positions.iter().step_by(7) {
+        from_position(program, position, Pass::FreeFrontOffice);
+        from_position(program, position, Pass::NotFree);
+    }
+}
+
+/// Every position up to 400.00 and a little beyond, some above, and the last.
+fn positions() -> Vec<u32> {
     let low = 1..=1_330;
-    let high = (1_331..POSITIONS).step_by(997);
+    let high = (1_331..POSITIONS - 30).step_by(997);
     let last = POSITIONS - 30..=POSITIONS;
-    for position in low.chain(high).chain(last) {
-        for (turn, source) in SOURCES.into_iter().enumerate() {
-            for session in [1, 2, 4] {
-                for board in [0, 1] {
-                    // Every channel comes with every rule within three positions.
-                    let channel = ((position as usize + turn) % 3) as u8;
-                    let mut events = market(source, board, session, position);
-                    events.extend(orders(position, board, channel));
-                    program.case(
-                        format_args!("position {position}, {source:?}, session {session}"),
-                        &start,
-                        &events,
-                    );
-                }
+    low.chain(high).chain(last).collect()
+}
+
+/// With this position's price as the reference, from every source.
+fn from_position(program: &mut Program, position: u32, pass: Pass) {
+    let start = fresh(1, 1);
+    for (turn, source) in (position..).zip(SOURCES) {
+        for session in [1, 2, 4] {
+            for board in [0, 1] {
+                let mut events = market(source, board, session, position, pass);
+                events.extend(orders(position, board, pass.channel(turn)));
+                program.case(
+                    format_args!("position {position}, {source:?}, session {session}, {pass:?}"),
+                    &start,
+                    &events,
+                );
             }
         }
     }
 }
 
 /// The source has the reference price, and all looked at later have another.
-fn market(source: Source, board: u8, session: u8, position: u32) -> Vec<Vec<u8>> {
+fn market(source: Source, board: u8, session: u8, position: u32, pass: Pass) -> Vec<Vec<u8>> {
     let from = |asked: Source| {
         if asked < source {
             0
@@ -72,7 +109,7 @@ fn market(source: Source, board: u8, session: u8, position: u32) -> Vec<Vec<u8>>
     let setup = encode::setup(&Setup {
         security: 0,
         lot: 1,
-        free: u8::from(!position.is_multiple_of(5)),
+        free: u8::from(pass != Pass::NotFree),
         first_day: u8::from(source != Source::OtherIpo),
         prior_close: from(Source::PriorClose),
         ipo,

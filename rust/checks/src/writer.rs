@@ -9,20 +9,24 @@ use second::{encode, gate};
 use crate::layout::fresh;
 use crate::malformed::malformed;
 use crate::mixture::{Kind, Mixture};
-use crate::prices::{limit_price, market_price, middle, order_type, repeated_volume, step, volume};
+use crate::prices::{
+    limit_price, market_price, middle, order_type, price_near, repeated_volume, step, volume,
+};
 use crate::random::Random;
 
 pub struct Writer {
     random: Random,
     mixture: &'static Mixture,
     words: Vec<u32>,
-    /// Few take part even in a large state, so that they meet often.
+    /// Those who take part.
     customers: Vec<u16>,
-    /// With the position around which each trades.
+    /// Those that take part, with the position around which each trades.
     securities: Vec<(u16, u32)>,
 }
 
 impl Writer {
+    /// Few take part even in a large state, so that they meet often: at most 5
+    /// customers and 3 securities, the last of each among them.
     pub fn new(
         mut random: Random,
         mixture: &'static Mixture,
@@ -38,13 +42,36 @@ impl Writer {
         };
         let customer_list = some(&mut random, customers, 4);
         let security_list = some(&mut random, securities, 2);
+        let words = fresh(customers, securities);
+        Writer::of_some(random, mixture, words, customer_list, security_list)
+    }
+
+    /// Every customer and every security of the state take part.
+    pub fn of_all(
+        random: Random,
+        mixture: &'static Mixture,
+        customers: u32,
+        securities: u32,
+    ) -> Self {
+        let all = |count: u32| (0..count as u16).collect();
+        let words = fresh(customers, securities);
+        Writer::of_some(random, mixture, words, all(customers), all(securities))
+    }
+
+    fn of_some(
+        mut random: Random,
+        mixture: &'static Mixture,
+        words: Vec<u32>,
+        customers: Vec<u16>,
+        securities: Vec<u16>,
+    ) -> Self {
         Writer {
-            customers: customer_list,
-            securities: security_list
+            customers,
+            securities: securities
                 .into_iter()
                 .map(|security| (security, middle(&mut random)))
                 .collect(),
-            words: fresh(customers, securities),
+            words,
             mixture,
             random,
         }
@@ -55,10 +82,15 @@ impl Writer {
         &self.customers
     }
 
+    /// How many rows of a customer's desk are not free.
+    pub fn rows(&self, customer: u16) -> usize {
+        self.desk(customer).rows().len()
+    }
+
     /// So many events. The first opens a session: in a closed one all orders
     /// get S.
     pub fn history(&mut self, length: usize) -> Vec<Vec<u8>> {
-        let mut events = vec![self.keep(encode::session(self.mixture.sessions[0] as u8))];
+        let mut events = vec![self.new_session(self.mixture.sessions[0])];
         for _ in 0..length {
             events.push(self.event());
         }
@@ -67,6 +99,47 @@ impl Writer {
 
     pub fn event(&mut self) -> Vec<u8> {
         let event = self.written();
+        self.keep(event)
+    }
+
+    pub fn new_session(&mut self, session: Session) -> Vec<u8> {
+        self.keep(encode::session(session as u8))
+    }
+
+    pub fn new_setup(&mut self) -> Vec<u8> {
+        let event = self.setup();
+        self.keep(event)
+    }
+
+    pub fn new_prices(&mut self) -> Vec<u8> {
+        let event = self.prices();
+        self.keep(event)
+    }
+
+    /// An order that is mostly accepted: by the front office, of a few lots, near
+    /// the market.
+    pub fn plain_order(&mut self, customer: u16, order_type: OrderType) -> Vec<u8> {
+        let (security, middle) = self.random.pick(&self.securities);
+        let record = self.security(security);
+        let desk = self.desk(customer);
+        let number = self.number(&desk);
+        let random = &mut self.random;
+        let board = random.pick(&[Board::Main, Board::Main, Board::Foreign]);
+        let price = match order_type {
+            OrderType::Limit => price_near(random, &record, board, middle),
+            _ => 0,
+        };
+        let event = encode::order(&Order {
+            customer,
+            number,
+            security,
+            board: board as u8,
+            side: random.below(2) as u8,
+            order_type: order_type as u8,
+            channel: 0,
+            price,
+            volume: record.lot * (1 + random.below(10)),
+        });
         self.keep(event)
     }
 
