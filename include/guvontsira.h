@@ -255,6 +255,17 @@ size_t guvontsira_run(uint32_t *words, size_t word_count, const uint8_t *events,
                       size_t events_length, uint32_t *answers,
                       size_t answers_length);
 
+/*
+ * The same for events by their lengths: the event at each place takes its length
+ * of the bytes, or what is left of them. So any list of events can be handed in,
+ * also one in which bytes that are no whole event stand before others. As many
+ * events are handled as there are lengths and places for answers.
+ */
+size_t guvontsira_run_list(uint32_t *words, size_t word_count,
+                           const uint8_t *events, size_t events_length,
+                           const uint32_t *lengths, size_t lengths_length,
+                           uint32_t *answers, size_t answers_length);
+
 /* The ladder position of a price in satang; 0 if it is off the ladder. */
 uint32_t guvontsira_position(uint32_t price);
 

@@ -45,9 +45,49 @@ pub fn run(program: &mut Program) {
             one(program, &start, stream, places);
         }
     }
+    lists(program, &mut random, &start, &history);
     let mut damaged = start;
     damaged[3] = 9;
     one(program, &damaged, &streams[1], whole.len());
+    list(program, &damaged, &whole, whole.len());
+}
+
+/// Events by their lengths, broken ones among them.
+fn lists(program: &mut Program, random: &mut Random, start: &[u32], history: &[Vec<u8>]) {
+    let mut events: Vec<&[u8]> = history.iter().map(Vec::as_slice).collect();
+    for broken in [&[][..], &[0], &[8, 1], &[2], &[2, 2, 2], &[6, 0, 0]] {
+        events.insert(random.place(events.len()), broken);
+    }
+    for places in [0, 1, events.len() / 2, events.len(), events.len() + 9] {
+        list(program, start, &events, places);
+    }
+    // The last length goes beyond the bytes, and one more finds none.
+    let bytes = events.concat();
+    let mut lengths: Vec<u32> = events.iter().map(|event| event.len() as u32).collect();
+    lengths.extend([u32::MAX, 3]);
+    lengths[events.len() - 1] += 1 + random.below(1_000);
+    events.extend([&[][..], &[]]);
+    let what = format!("{} events, lengths beyond the bytes", events.len());
+    compare(
+        program,
+        start,
+        &what,
+        &events,
+        events.len(),
+        |words, answers| library::run_list(words, &bytes, &lengths, answers),
+    );
+}
+
+fn list(program: &mut Program, start: &[u32], events: &[&[u8]], places: usize) {
+    let bytes = events.concat();
+    let lengths: Vec<u32> = events.iter().map(|event| event.len() as u32).collect();
+    let what = format!(
+        "{} events by their lengths, {places} places for answers",
+        events.len()
+    );
+    compare(program, start, &what, events, places, |words, answers| {
+        library::run_list(words, &bytes, &lengths, answers)
+    });
 }
 
 /// Each event as long as its kind says; what is broken takes all the rest.
@@ -63,14 +103,34 @@ fn split(mut rest: &[u8]) -> Vec<&[u8]> {
 }
 
 fn one(program: &mut Program, start: &[u32], stream: &[u8], places: usize) {
+    let what = format!("{} bytes, {places} places for answers", stream.len());
+    compare(
+        program,
+        start,
+        &what,
+        &split(stream),
+        places,
+        |words, answers| library::run(words, stream, answers),
+    );
+}
+
+/// One call that is handed these events, against one call an event.
+fn compare(
+    program: &mut Program,
+    start: &[u32],
+    what: &str,
+    events: &[&[u8]],
+    places: usize,
+    call: impl Fn(&mut [u32], &mut [u32]) -> usize,
+) {
     let mut lent = Lent::default();
     lent.set(start);
     let mut answers = Lent::default();
     answers.set(&vec![UNTOUCHED; places]);
-    let handled = library::run(lent.words_mut(), stream, answers.words_mut());
+    let handled = call(lent.words_mut(), answers.words_mut());
 
     let mut singly = start.to_vec();
-    let mut expected: Vec<u32> = split(stream)
+    let mut expected: Vec<u32> = events
         .iter()
         .take(places)
         .map(|event| library::handle(&mut singly, event))
@@ -82,20 +142,16 @@ fn one(program: &mut Program, start: &[u32], stream: &[u8], places: usize) {
         && lent.words() == singly
         && lent.is_guard_whole()
         && answers.is_guard_whole();
-    program.holds(
-        format_args!("{} bytes, {places} places for answers", stream.len()),
-        holds,
-        || {
-            let securities = start[1] as usize;
-            [
-                lines(split(stream)),
-                format!("{handled} events were handled and should be {count}\n"),
-                first_wrong(answers.words(), &expected, |place| {
-                    format!("answer {place}")
-                }),
-                first_wrong(lent.words(), &singly, |place| meaning(place, securities)),
-            ]
-            .concat()
-        },
-    );
+    program.holds(format_args!("{what}"), holds, || {
+        let securities = start[1] as usize;
+        [
+            lines(events.to_vec()),
+            format!("{handled} events were handled and should be {count}\n"),
+            first_wrong(answers.words(), &expected, |place| {
+                format!("answer {place}")
+            }),
+            first_wrong(lent.words(), &singly, |place| meaning(place, securities)),
+        ]
+        .concat()
+    });
 }

@@ -1,4 +1,4 @@
-//! The library's five functions over slices, with its bare numbers. All unsafe
+//! The library's six functions over slices, with its bare numbers. All unsafe
 //! code of the crate is here.
 //!
 //! Every function is total: any words and any bytes may be handed in, and a
@@ -23,6 +23,17 @@ unsafe extern "C" {
         word_count: usize,
         events: *const u8,
         events_length: usize,
+        answers: *mut u32,
+        answers_length: usize,
+    ) -> usize;
+
+    fn guvontsira_run_list(
+        words: *mut u32,
+        word_count: usize,
+        events: *const u8,
+        events_length: usize,
+        lengths: *const u32,
+        lengths_length: usize,
         answers: *mut u32,
         answers_length: usize,
     ) -> usize;
@@ -57,6 +68,26 @@ pub fn run(words: &mut [u32], events: &[u8], answers: &mut [u32]) -> usize {
             words.len(),
             events.as_ptr(),
             events.len(),
+            answers.as_mut_ptr(),
+            answers.len(),
+        )
+    }
+}
+
+/// Handles events by their lengths, as many as there are lengths and places for
+/// answers, and gives back how many those were. A length beyond the bytes takes
+/// what is left of them. Later places keep what they hold.
+pub fn run_list(words: &mut [u32], events: &[u8], lengths: &[u32], answers: &mut [u32]) -> usize {
+    // SAFETY: pointers and lengths are those of four borrowed slices; the two
+    // that are written overlap nothing.
+    unsafe {
+        guvontsira_run_list(
+            words.as_mut_ptr(),
+            words.len(),
+            events.as_ptr(),
+            events.len(),
+            lengths.as_ptr(),
+            lengths.len(),
             answers.as_mut_ptr(),
             answers.len(),
         )

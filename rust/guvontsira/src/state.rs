@@ -97,6 +97,30 @@ impl State {
         numbers[..handled].iter().copied().map(known).collect()
     }
 
+    /// Hands in a list of events, each by itself, whole or not, in one call.
+    ///
+    /// ```
+    /// use guvontsira::{Answer, State};
+    ///
+    /// let mut state = State::new(1, 1)?;
+    /// let answers = state.run_list(&[&[9u8][..], &[], &[2, 2]]);
+    /// assert_eq!(answers, [Answer::Refused(3), Answer::Refused(2), Answer::Ok]);
+    /// # Ok::<(), guvontsira::Refused>(())
+    /// ```
+    ///
+    /// # Panics
+    /// As [`State::handle`]; and if an event has 4,294,967,296 bytes or more.
+    pub fn run_list<E: AsRef<[u8]>>(&mut self, events: &[E]) -> Vec<Answer> {
+        let bytes: Vec<u8> = events.iter().flat_map(AsRef::as_ref).copied().collect();
+        let lengths: Vec<u32> = events
+            .iter()
+            .map(|event| u32::try_from(event.as_ref().len()).expect("an event's length in 32 bits"))
+            .collect();
+        let mut numbers = vec![0; events.len()];
+        library::run_list(&mut self.words, &bytes, &lengths, &mut numbers);
+        numbers.into_iter().map(known).collect()
+    }
+
     /// One customer's counters and marked rows. `None` if there is no such
     /// customer, or if the words are damaged: of a wrong count, or with a code
     /// outside its list.
