@@ -9,10 +9,10 @@
  * what it was lent for writing; a refusal (1 to 99) changes no word.
  *
  * Owed by the caller: each pointer is valid for the length that follows it
- * (in words for uint32_t, in bytes for uint8_t) and aligned for its type, also
- * where that length is 0: never null. The words, the bytes and the answers do
- * not overlap, and nobody else reads or writes the words and the answers, or
- * writes the bytes, during a call. So one state must not be used by two calls
+ * (a count of its type) and aligned for its type, also where that length is 0:
+ * never null. The words and the answers overlap nothing else that is handed in,
+ * and nobody else reads or writes them, or writes the bytes and the lengths,
+ * during a call. So one state must not be used by two calls
  * at once; calls on different states may run at the same time.
  *
  * Link with libguvontsira.a, which needs only memcpy and memset.
@@ -215,7 +215,7 @@ enum guvontsira_answer {
     GUVONTSIRA_REFUSED_KIND = 3,          /* unknown kind */
     GUVONTSIRA_REFUSED_NAME = 4,          /* no such customer or security */
     GUVONTSIRA_REFUSED_CODE = 5,          /* code, time or order number */
-    GUVONTSIRA_REFUSED_PRICE = 6,         /* price off the ladder */
+    GUVONTSIRA_REFUSED_PRICE = 6,         /* a price that may not stand there */
     GUVONTSIRA_REFUSED_CLOCK = 7,         /* earlier than the state's clock */
     GUVONTSIRA_REFUSED_RECORD = 8,        /* a record of the state is damaged */
     GUVONTSIRA_REFUSED_NUMBER_TAKEN = 9,  /* order number in use */
@@ -263,7 +263,7 @@ size_t guvontsira_run(uint32_t *words, size_t word_count, const uint8_t *events,
  */
 size_t guvontsira_run_list(uint32_t *words, size_t word_count,
                            const uint8_t *events, size_t events_length,
-                           const uint32_t *lengths, size_t lengths_length,
+                           const size_t *lengths, size_t lengths_length,
                            uint32_t *answers, size_t answers_length);
 
 /* The ladder position of a price in satang; 0 if it is off the ladder. */

@@ -18,6 +18,9 @@ enum { CUSTOMERS = 3, SECURITIES = 5, NOON = 43200000 };
 static uint32_t words[GUVONTSIRA_WORD_COUNT(CUSTOMERS, SECURITIES)];
 static uint32_t most_words[GUVONTSIRA_WORD_COUNT(GUVONTSIRA_MAX_CUSTOMERS,
                                                  GUVONTSIRA_MAX_SECURITIES)];
+/* One customer and one security more than there may be. */
+static uint32_t more_words[GUVONTSIRA_WORD_COUNT(GUVONTSIRA_MAX_CUSTOMERS + 1,
+                                                 GUVONTSIRA_MAX_SECURITIES + 1)];
 
 #define COUNT(array) (sizeof(array) / sizeof(array)[0])
 
@@ -164,9 +167,11 @@ static void sizes(void)
     same("a word fewer", count - 1, GUVONTSIRA_REFUSED_STATE,
          guvontsira_make(most_words, count - 1, customers, securities));
     MEANS(MAX_CUSTOMERS, GUVONTSIRA_REFUSED_STATE,
-          guvontsira_make(most_words, count, customers + 1, securities));
+          guvontsira_make(more_words, GUVONTSIRA_WORD_COUNT(customers + 1, securities),
+                          customers + 1, securities));
     MEANS(MAX_SECURITIES, GUVONTSIRA_REFUSED_STATE,
-          guvontsira_make(most_words, count, customers, securities + 1));
+          guvontsira_make(more_words, GUVONTSIRA_WORD_COUNT(customers, securities + 1),
+                          customers, securities + 1));
 
     make();
     STANDS(HEADER_CUSTOMERS_WORD, 0, CUSTOMERS);
@@ -216,6 +221,29 @@ static void lengths(void)
     ANSWERS(REFUSED_LENGTH, hand_in(events, 0));
     events[0] = COUNT(kinds) + 1;
     ANSWERS(REFUSED_KIND, hand_in(events, 1));
+}
+
+/* An unknown kind and an empty event before a whole one: only by their lengths. */
+static void list(void)
+{
+    const uint8_t bytes[] = {COUNT(kinds) + 1, GUVONTSIRA_KIND_SESSION, GUVONTSIRA_SESSION_OPEN};
+    const size_t lengths[] = {1, 0, 2};
+    uint32_t three[] = {99, 99, 99};
+    make();
+    same("events of the list", COUNT(lengths), COUNT(three),
+         guvontsira_run_list(words, COUNT(words), bytes, COUNT(bytes), lengths, COUNT(lengths),
+                             three, COUNT(three)));
+    ANSWERS(REFUSED_KIND, three[0]);
+    ANSWERS(REFUSED_LENGTH, three[1]);
+    ANSWERS(OK, three[2]);
+}
+
+static void ladder(void)
+{
+    same("position of 400.00", 40000, 1300, guvontsira_position(40000));
+    same("price at 1300", 1300, 40000, guvontsira_price(1300));
+    same("position of 400.01", 40001, 0, guvontsira_position(40001));
+    same("price at 0", 0, 0, guvontsira_price(0));
 }
 
 static void market(void)
@@ -427,6 +455,8 @@ int main(void)
 {
     sizes();
     lengths();
+    list();
+    ladder();
     market();
     types();
     rows();

@@ -10,9 +10,10 @@ use native.Mathlib.Omega.{arith}
 use lib.ListN.{length, getD, take, drop, set, drop-of-length-le, length-take, length-drop, length-set, take-append-drop}
 use lib.Seq.{take-all, drop-length, drop-drop, take-suc-set, drop-set-lt, getD-take, take-append-seam, drop-append-seam}
 use borrow.Author.Tests.{ne-eqb}
-use Rattle.definitions.specs.State.{fresh}
+use Rattle.definitions.specs.Lists.{keep}
+use Rattle.definitions.specs.State.{sizesFit, fresh, deskWords}
 use Rattle.definitions.specs.Gate.{stepWords, stepAnswer, wordsAfter, answersTo}
-use Rattle.definitions.specs.Lone.{concerns, marketWords, customerWords}
+use Rattle.definitions.specs.Lone.{loneFresh, loneAfter, loneAnswers, concerns, marketWords, customerWords}
 use Rattle.definitions.specs.Walk.{taken, split}
 use Rattle.definitions.specs.Answers.{answerNumber}
 use Rattle.definitions.proofs.Lists.{drop-next}
@@ -218,3 +219,34 @@ pub every-history : (history : List (List ℕ)) → cut (map length history) (jo
 unfolding cut
 every-history [] = refl
 every-history (e ∷ es) = rw (take-append-seam e (joined es), drop-append-seam e (joined es), every-history es)
+
+-- a history that is handed in by two calls
+pub after-joined : (w : List ℕ) (h g : List (List ℕ)) → wordsAfter w (h ++ g) ≡ wordsAfter (wordsAfter w h) g
+unfolding wordsAfter
+after-joined w [] g = refl
+after-joined w (e ∷ h) g = after-joined (stepWords w e) h g
+
+pub answers-joined : (w : List ℕ) (h g : List (List ℕ)) → numbers w (h ++ g) ≡ numbers w h ++ numbers (wordsAfter w h) g
+unfolding wordsAfter answersTo
+answers-joined w [] g = refl
+answers-joined w (e ∷ h) g = ap (λ (xs : List ℕ). answerNumber (stepAnswer w e) ∷ xs) (answers-joined (stepWords w e) h g)
+
+-- "Any two histories from fresh states of one size that hold the same market events and the same events of one customer, in the same order among
+-- themselves, are alike", of what two calls left
+pub record Alike (customers k : ℕ) (h g : List (List ℕ)) (answers others v x : List ℕ) : Type 0 where
+  pub answers-alike : picked (concerns customers k) h answers ≡ picked (concerns customers k) g others
+  pub market : marketWords v ≡ marketWords x
+  pub desk : customerWords v k ≡ customerWords x k
+
+pub ran-alike : (customers securities k : ℕ) → sizesFit customers securities ≡ true → k < customers → (h g : List (List ℕ)) {a b : List ℕ} {m n : ℕ} {v c x d : List ℕ}
+    → Ran (fresh customers securities) h a m v c → Ran (fresh customers securities) g b n x d → keep (concerns customers k) h ≡ keep (concerns customers k) g
+    → Alike customers k h g (take m c) (take n d) v x
+ran-alike customers securities k fit below h g one other same =
+    let lone = loneFresh customers securities in
+    let p = one .alone customers securities fit refl k below in
+    let q = other .alone customers securities fit refl k below in
+    record {
+      answers-alike = p .answers-same ∙ ap (λ (es : List (List ℕ)). map answerNumber (loneAnswers lone es)) same ∙ sym (q .answers-same);
+      market = p .market-same ∙ ap (λ (es : List (List ℕ)). loneAfter lone es .market) same ∙ sym (q .market-same);
+      desk = p .desk-same ∙ ap (λ (es : List (List ℕ)). deskWords (loneAfter lone es .desk)) same ∙ sym (q .desk-same);
+    }

@@ -1,4 +1,4 @@
-// A history, handed to the gate in one call: events one after another in lent bytes.
+// A history, handed to the gate in one call: events in lent bytes, one after another or by their lengths.
 ghost use mathlib.Core.Path.{_≡_};
 ghost use Prim.Native.Nat.{_≤_};
 ghost use lib.ListN.{length, take};
@@ -12,7 +12,7 @@ use reader::Step;
 
 // Handles as many events as there are places for answers, writes the number of each answer to its place, and gives the count. The contract carries
 // demand 3 to the code: over a fresh state, what the words and the answers hold of the market and of each customer is what that customer's lone run
-// holds. Bytes that are no whole event end such a history; one in which they stand before others is handed to `run_list`.
+// holds. An unknown kind or a cut event ends such a history; every other history is handed to `run_list`.
 pub fn run(words: &mut [u32], events: &[u8], answers: &mut [u32]) -> usize
     ensures { λ count.
         ⌜ Ran (now (words .entry)) (split (length (now (answers .entry))) (now (events .entry))) (now (answers .entry)) count (now (words .exit)) (now (answers .exit)) ⌝ }
@@ -31,9 +31,9 @@ pub fn run(words: &mut [u32], events: &[u8], answers: &mut [u32]) -> usize
     count
 }
 
-// The same for events by their lengths: every history can be handed in so (`every-history`), also one in which bytes that are no whole event stand
-// before others. A length beyond the bytes takes what is left of them.
-pub fn run_list(words: &mut [u32], events: &[u8], lengths: &[u32], answers: &mut [u32]) -> usize
+// The same for events by their lengths: every history whose bytes stand in one slice can be handed in so (`every-history`), also one in which bytes
+// that are no whole event stand before others; a longer one goes on in the next call (`after-joined`). A length beyond the bytes takes what is left.
+pub fn run_list(words: &mut [u32], events: &[u8], lengths: &[usize], answers: &mut [u32]) -> usize
     ensures { λ count.
         ⌜ Ran (now (words .entry)) (cut (take (length (now (answers .entry))) (now (lengths .entry))) (now (events .entry))) (now (answers .entry)) count (now (words .exit)) (now (answers .exit)) ⌝ }
 {
@@ -51,16 +51,15 @@ pub fn run_list(words: &mut [u32], events: &[u8], lengths: &[u32], answers: &mut
     count
 }
 
-fn end_of(events: &[u8], at: usize, wanted: u32) -> usize
+fn end_of(events: &[u8], at: usize, wanted: usize) -> usize
     requires { ⌜ at ≤ length (now events) ⌝ }
     ensures { λ end. ⌜ Ends (now (events .entry)) at wanted end ⌝ }
 {
     let left = events.len() - at;
-    let taken = wanted as usize;
-    if left < taken {
+    if left < wanted {
         return events.len();
     }
-    at + taken
+    at + wanted
 }
 
 pub fn answer_number(a: Answer) -> u32

@@ -40,7 +40,7 @@ pub extern "C" fn guvontsira_run(words: &mut [u32], events: &[u8], answers: &mut
 pub extern "C" fn guvontsira_run_list(
     words: &mut [u32],
     events: &[u8],
-    lengths: &[u32],
+    lengths: &[usize],
     answers: &mut [u32],
 ) -> usize
     ensures { λ count.

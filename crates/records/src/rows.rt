@@ -1,6 +1,5 @@
 // Paper 01: "marked rows stand first and free rows are all zero; a marked row has a number above 0 that no other marked row of its desk has". A desk is
 // tested where it stands in the words, so that no desk is taken out only to be tested, and the free rows are tested as words.
-ghost use mathlib.Core.List.{map};
 ghost use mathlib.Core.Path.{_≡_};
 ghost use Prim.Native.Nat.{_+_, _≤_};
 ghost use lib.ListN.{length, getD};

@@ -1,5 +1,6 @@
-//! Random histories in which words are damaged between the events, at desks of a
-//! few customers or at any desk of a state in which most have rows.
+//! Random histories, at whose words again and again a copy is damaged, at desks of
+//! a few customers or at any desk of a state in which most have rows, and handed
+//! the next events; and the bases with many words damaged.
 
 use second::state::{ROW_WORDS, SECURITY_WORDS};
 use second::{encode, gate};

@@ -63,9 +63,9 @@ fn lists(program: &mut Program, random: &mut Random, start: &[u32], history: &[V
     }
     // The last length goes beyond the bytes, and one more finds none.
     let bytes = events.concat();
-    let mut lengths: Vec<u32> = events.iter().map(|event| event.len() as u32).collect();
-    lengths.extend([u32::MAX, 3]);
-    lengths[events.len() - 1] += 1 + random.below(1_000);
+    let mut lengths: Vec<usize> = events.iter().map(|event| event.len()).collect();
+    lengths.extend([usize::MAX, 3]);
+    lengths[events.len() - 1] += 1 + random.place(1_000);
     events.extend([&[][..], &[]]);
     let what = format!("{} events, lengths beyond the bytes", events.len());
     compare(
@@ -80,7 +80,7 @@ fn lists(program: &mut Program, random: &mut Random, start: &[u32], history: &[V
 
 fn list(program: &mut Program, start: &[u32], events: &[&[u8]], places: usize) {
     let bytes = events.concat();
-    let lengths: Vec<u32> = events.iter().map(|event| event.len() as u32).collect();
+    let lengths: Vec<usize> = events.iter().map(|event| event.len()).collect();
     let what = format!(
         "{} events by their lengths, {places} places for answers",
         events.len()

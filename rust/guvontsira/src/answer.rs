@@ -10,7 +10,8 @@ pub enum Rule {
     P,
     /// A price outside 50% to 150% of the reference.
     Q,
-    /// A session that does not take this order.
+    /// A session that does not take this order, or a market-price order with no
+    /// best price opposite.
     S,
     /// Volume, lot or value.
     V,
@@ -35,8 +36,8 @@ pub enum Answer {
     Refused(u8),
 }
 
-/// The highest refusal number that any release of the library gives.
-const LAST_REFUSAL: u32 = 22;
+/// The highest refusal number of this release.
+const LAST_REFUSAL: u32 = 12;
 
 const REJECTS: [(Rule, u32); 5] = [
     (Rule::P, 216),
@@ -107,7 +108,6 @@ mod tests {
             (0, "ok"),
             (1, "refused 1"),
             (12, "refused 12"),
-            (22, "refused 22"),
             (100, "accept"),
             (110, "warn 10"),
             (130, "warn 30"),
@@ -122,7 +122,7 @@ mod tests {
             assert_eq!(answer.as_deref(), Some(words));
         }
         let known = (0..1_000).filter_map(Answer::from_number).count();
-        assert_eq!(known, 1 + 22 + 3 + 5);
+        assert_eq!(known, 1 + 12 + 3 + 5);
         assert_eq!(Answer::from_number(u32::MAX), None);
     }
 }

@@ -4,7 +4,8 @@ use crate::codes::{Board, Channel, OrderType, Session, Side};
 
 /// One event of a trading day. Customers and securities are numbered from 0;
 /// prices are in satang, and 0 is an absent one. What the gate refuses can be
-/// made too, but for kinds, lengths and codes that do not exist.
+/// made too, but for kinds, lengths and codes (other than the lot) that do not
+/// exist.
 ///
 /// ```
 /// use guvontsira::{Answer, Event, State};

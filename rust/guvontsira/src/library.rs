@@ -32,7 +32,7 @@ unsafe extern "C" {
         word_count: usize,
         events: *const u8,
         events_length: usize,
-        lengths: *const u32,
+        lengths: *const usize,
         lengths_length: usize,
         answers: *mut u32,
         answers_length: usize,
@@ -77,7 +77,7 @@ pub fn run(words: &mut [u32], events: &[u8], answers: &mut [u32]) -> usize {
 /// Handles events by their lengths, as many as there are lengths and places for
 /// answers, and gives back how many those were. A length beyond the bytes takes
 /// what is left of them. Later places keep what they hold.
-pub fn run_list(words: &mut [u32], events: &[u8], lengths: &[u32], answers: &mut [u32]) -> usize {
+pub fn run_list(words: &mut [u32], events: &[u8], lengths: &[usize], answers: &mut [u32]) -> usize {
     // SAFETY: pointers and lengths are those of four borrowed slices; the two
     // that are written overlap nothing.
     unsafe {

@@ -109,13 +109,10 @@ impl State {
     /// ```
     ///
     /// # Panics
-    /// As [`State::handle`]; and if an event has 4,294,967,296 bytes or more.
+    /// As [`State::handle`].
     pub fn run_list<E: AsRef<[u8]>>(&mut self, events: &[E]) -> Vec<Answer> {
         let bytes: Vec<u8> = events.iter().flat_map(AsRef::as_ref).copied().collect();
-        let lengths: Vec<u32> = events
-            .iter()
-            .map(|event| u32::try_from(event.as_ref().len()).expect("an event's length in 32 bits"))
-            .collect();
+        let lengths: Vec<usize> = events.iter().map(|event| event.as_ref().len()).collect();
         let mut numbers = vec![0; events.len()];
         library::run_list(&mut self.words, &bytes, &lengths, &mut numbers);
         numbers.into_iter().map(known).collect()
