@@ -3,7 +3,7 @@
 use mathlib.Core.Bool.{Bool, true, false, cond}
 use mathlib.Core.List.{List, [], _∷_, _++_, map, append-assoc, append-nil}
 use mathlib.Core.Path.{_≡_, refl, ap, ap₂, sym, subst, _∙_}
-use Prim.Native.Nat.{ℕ, zero, suc, _+_, _-_, _≤_, _<_}
+use Prim.Native.Nat.{ℕ, zero, suc, _+_, _-_, _≤_, _<_, min}
 use native.Mathlib.Nat.{add-sub-cancel-left}
 use native.Mathlib.Numerals.{add-one}
 use native.Mathlib.Omega.{arith}
@@ -133,10 +133,11 @@ pub record Walks (w₀ b a₀ w a : List ℕ) (at count : ℕ) : Type 0 where
 pub walks-none : (w b a : List ℕ) → Walks w b a w a 0 0
 walks-none w b a =
     let none : length a ≡ length a - 0 = omega arith in
-    record { room = omega arith; within = omega arith; so-far = ap·subst none }
-  where
-    ap·subst : length a ≡ length a - 0 → SoFar w (split (length a) b) a w a (split (length a - 0) b) 0
-    ap·subst none = subst (λ (n : ℕ). SoFar w (split (length a) b) a w a (split n b) 0) none (begin w a (split (length a) b))
+    record {
+      room = omega arith;
+      within = omega arith;
+      so-far = subst (λ (n : ℕ). SoFar w (split (length a) b) a w a (split n b) 0) none (begin w a (split (length a) b));
+    }
 
 pub walks-next : (w₀ b a₀ w a : List ℕ) (at count end : ℕ) {v : List ℕ} {x : ℕ} → Walks w₀ b a₀ w a at count → count < length a → EventAt b at end
     → length v ≡ length w → v ≡ stepWords w (take (end - at) (drop at b)) → x ≡ answerNumber (stepAnswer w (take (end - at) (drop at b)))
@@ -196,17 +197,10 @@ cuts-next w₀ b ns a₀ w a at count end inv h some here same ev ex =
           same ev ex;
     }
 
--- no length is left
-pub cuts-end : (ns b : List ℕ) (most count : ℕ) → length ns ≤ count → cut (drop count (take most ns)) b ≡ []
+-- no length is left, or no place for an answer
+pub cuts-end : (ns b : List ℕ) (most count : ℕ) → min most (length ns) ≤ count → cut (drop count (take most ns)) b ≡ []
 unfolding cut
 cuts-end ns b most count h =
-    let past : length (take most ns) ≤ count = omega (arith, length-take most ns) in
-    ap (λ (ms : List ℕ). cut ms b) (drop-of-length-le (take most ns) past)
-
--- no place for an answer is left
-pub cuts-full : (ns b : List ℕ) (most count : ℕ) → most ≤ count → cut (drop count (take most ns)) b ≡ []
-unfolding cut
-cuts-full ns b most count h =
     let past : length (take most ns) ≤ count = omega (arith, length-take most ns) in
     ap (λ (ms : List ℕ). cut ms b) (drop-of-length-le (take most ns) past)
 

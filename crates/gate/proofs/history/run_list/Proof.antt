@@ -7,7 +7,7 @@ use lib.ListN.{length, drop}
 use borrow.Author.Needs.{needs}
 use Rattle.definitions.specs.Answers.{answerNumber}
 use Rattle.definitions.specs.Gate.{Result}
-use Rattle.gate.proofs.Histories.{Cuts, cuts-none, cuts-next, cuts-end, cuts-full, finish}
+use Rattle.gate.proofs.Histories.{Cuts, cuts-none, cuts-next, cuts-end, finish}
 use Rattle.gate.proofs.history.run_list.Statement.{statement}
 use Rattle.gate.proofs.history.run_list.Tie as tie
 
@@ -37,7 +37,7 @@ returns : tie.Need-returns Inv-loop μ-loop
 returns c =
     let turn = c .before .before .loop in
     let args = start (c .before .before) .args in
-    finish _ _ _ _ _ _ _ (turn .inv .so-far) (cuts-end (args .lengths .now) (drop (turn .from) (args .events .now)) (length (args .answers .now)) (turn .count) (c .if1 .taken))
+    finish _ _ _ _ _ _ _ (turn .inv .so-far) (cuts-end (args .lengths .now) (drop (turn .from) (args .events .now)) (length (args .answers .now)) (turn .count) (omega (arith, c .if1 .taken)))
 
 mul-end-of : tie.Need-mul-end-of Inv-loop μ-loop
 mul-end-of c = search needs
@@ -100,7 +100,7 @@ returns-2 c =
     let turn = c .before .loop in
     let args = start (c .before) .args in
     finish _ _ _ _ _ _ _ (turn .inv .so-far)
-    (cuts-full (args .lengths .now) (drop (turn .from) (args .events .now)) (length (args .answers .now)) (turn .count) (omega (arith, c .loop-test .left, turn .inv .so-far .long)))
+    (cuts-end (args .lengths .now) (drop (turn .from) (args .events .now)) (length (args .answers .now)) (turn .count) (omega (arith, c .loop-test .left, turn .inv .so-far .long)))
 
 pub run-list-spec : {M : Type 1} → statement M
 run-list-spec =
