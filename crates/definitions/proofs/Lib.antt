@@ -20,6 +20,7 @@ pub mod Fresh
 pub mod Isolation
 pub mod Histories
 pub mod Turned
+pub mod Exits
 pub mod Demands
 -- the paper's cases
 pub mod Bytes

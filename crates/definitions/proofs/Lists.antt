@@ -1,13 +1,17 @@
 -- Laws of `any`, `all`, `count`, `keep`, `allBelow` and `each`: at the next element of a list, as a loop meets it, and at the next number.
 -- Assumes nothing.
 use mathlib.Core.Bool.{Bool, true, false, _&&_, _||_, and-assoc, or-assoc, or-false, and-true}
-use mathlib.Core.List.{List, [], _∷_, _++_}
+use mathlib.Core.List.{List, [], _∷_, _++_, map}
 use mathlib.Core.Path.{_≡_, ap, sym, _∙_}
 use Prim.Native.Nat.{ℕ, _+_, _≤_, _<_}
 use native.Mathlib.Numerals.{add-one}
-use lib.ListN.{length, getD, take, drop, drop-of-length-le}
+use lib.ListN.{length, getD, take, drop, drop-of-length-le, length-map}
 use lib.Seq.{drop-cons, take-suc}
 use Rattle.definitions.specs.Lists.{bit, any, all, count, allBelow, each}
+
+-- the length of an array of records, which the logic says of their machine values
+pub length-mapped : {A B : Type 0} (f : A → B) (xs : List A) {n : ℕ} → length (map f xs) ≡ n → length xs ≡ n
+length-mapped f xs e = sym (length-map xs f) ∙ e
 
 module _ {A : Type 0} where
   -- the code's i + 1 where the library has suc i

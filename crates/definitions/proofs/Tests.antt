@@ -1,13 +1,23 @@
--- Tests joined by `&&` and `||`: what their value tells of each part, and the way back.
+-- Tests: what a call tells of one; of tests joined by `&&` and `||`, what their value tells of each part, and the way back.
 -- Assumes nothing.
 use mathlib.Core.Bool.{Bool, true, false, _&&_, _||_, not, true≢false, false≢true}
 use mathlib.Core.List.{List, [], _∷_}
 use mathlib.Core.Logic.{_⊎_, inl, inr}
 use mathlib.Core.Path.{_≡_, refl, sym, _∙_}
-use borrow.Author.Tests.{not-true}
+use borrow.Author.Tests.{not-true, not-false}
 
 pub never : {A : Type 0} {t : Bool} → t ≡ true → t ≡ false → A
 never yes-t no-t = absurd (true≢false (sym yes-t ∙ no-t))
+
+-- what a call ensures of a test, and what an `if` found of the test
+pub known : {t u b : Bool} → t ≡ u → t ≡ b → u ≡ b
+known e h = sym e ∙ h
+
+pub refused : {t u : Bool} → t ≡ u → not t ≡ true → u ≡ false
+refused {t} e n = known e (not-true t n)
+
+pub passed : {t u : Bool} → t ≡ u → not t ≡ false → u ≡ true
+passed {t} e n = known e (not-false t n)
 
 pub and-parts : (a b : Bool) → (a && b) ≡ true → (a ≡ true) × (b ≡ true)
 and-parts true b e = (refl, e)

@@ -1,4 +1,5 @@
 // The records, events and answers of paper 01, as the code has them. What they mean stands in specs/. No code.
+pub mod codes;
 
 // Paper 01, "The lent state": the header.
 pub struct Header {

@@ -1,4 +1,4 @@
--- The laws of a desk: the loops over its rows, each stated once over what becomes of one row or what is asked of one, and its counters.
+-- The laws of a desk: the loops over its rows, each stated once over what becomes of one row or what is asked of one, and an order that is counted and added.
 -- Assumes nothing.
 use mathlib.Core.Bool.{Bool, true, false, cond, _&&_, _||_, not}
 use mathlib.Core.List.{List, [], _∷_, _++_, map, map-append, append-nil}
@@ -7,19 +7,15 @@ use Prim.Native.Nat.{ℕ, zero, suc, _+_, _-_, _≤_, _<_}
 use native.Mathlib.Omega.{arith}
 use lib.ListN.{length, getD, take, drop, set, replicate, length-map, length-append, length-replicate}
 use lib.Seq.{take-all, set-at, set-out, append-snoc}
-use borrow.Author.Tests.{eq-eqb, ne-eqb, lt-ltb, le-ltb, not-true, not-false}
+use borrow.Author.Tests.{eq-eqb, ne-eqb}
 use Rattle.definitions.specs.declared.Row.{Row}
 use Rattle.definitions.specs.declared.Desk.{Desk}
 use Rattle.definitions.specs.declared.Order.{Order}
 use Rattle.definitions.specs.declared.Verdict.{Verdict}
-use Rattle.definitions.specs.Codes.{mostCounted}
 use Rattle.definitions.specs.Lists.{bit, any, keep, count}
 use Rattle.definitions.specs.Sound.{marked}
-use Rattle.definitions.specs.Desks.{freeRow, closeUp, edited, withRows, addedLast, added, countedUp, rejects, warns, counted, takesRow, ordered}
+use Rattle.definitions.specs.Desks.{freeRow, closeUp, edited, withRows, addedLast, added, counted, takesRow, ordered}
 use Rattle.definitions.proofs.Lists.{take-next, any-next, any-end, count-next, count-end}
-
-pub length-mapped : {A B : Type 0} (f : A → B) (l : List A) (n : ℕ) → length (map f l) ≡ n → length l ≡ n
-length-mapped f l n e = sym (length-map l f) ∙ e
 
 module _ {A : Type 0} (p : A → Bool) where
   keep-append : (a b : List A) → keep p (a ++ b) ≡ keep p a ++ keep p b
@@ -188,27 +184,6 @@ module _ {p : Row → Bool} {d : Desk} where
 
     pub counting-end : 32 ≤ i → n ≡ count p (d .rows)
     counting-end h = omega (arith, count-end p (d .rows) i (omega (arith, c .full)), c .left)
-
--- A counter counts where its verdict is given and it is below its largest number.
-module _ (n : ℕ) (counts : Bool) where
-  pub counted-other : not counts ≡ true → n ≡ cond counts (countedUp n) n
-  counted-other t = rw (not-true counts t)
-
-  pub counted-more : not counts ≡ false → n < mostCounted → n + 1 ≡ cond counts (countedUp n) n
-  counted-more t s = rw (not-false counts t, lt-ltb n mostCounted s)
-
-  pub counted-most : not counts ≡ false → mostCounted ≤ n → n ≡ cond counts (countedUp n) n
-  counted-most t s = rw (not-false counts t, le-ltb n mostCounted s)
-
--- what a counter is after a verdict, by whether it counts
-abbrev after : Bool → ℕ → ℕ
-after counts n = cond counts (countedUp n) n
-
-pub counted-is : (v : Verdict) (d : Desk) {no warned : Bool} {a w r : ℕ} → no ≡ rejects v → warned ≡ warns v
-    → a ≡ after (not no && not warned) (d .accepted) → w ≡ after warned (d .warned) → r ≡ after no (d .rejected)
-    → _≡_ {A = Desk} (record { accepted = a; warned = w; rejected = r; rows = d .rows }) (counted v d)
-unfolding counted
-counted-is v d no-is warned-is accepted-is warned-after rejected-after = cc
 
 -- The counters and the rows are different fields: the desk may be counted before the order is added.
 module _ (v : Verdict) (clock : ℕ) (o : Order) (d : Desk) where

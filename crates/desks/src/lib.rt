@@ -1,14 +1,16 @@
 // Paper 01, "Events" and "The lone run": how a desk changes, and what the refusals 9 to 12 ask of it.
-ghost use mathlib.Core.Bool.{cond};
 ghost use mathlib.Core.Path.{_≡_};
 ghost use lib.ListN.{replicate};
 ghost use Rattle.definitions.specs.Codes.{deskRows};
-ghost use Rattle.definitions.specs.Desks.{added, cancelled, counted, countedUp, freeRow, live, matched, openWith, ordered, rejects, swept, takesRow, warns};
+ghost use Rattle.definitions.specs.Desks.{added, cancelled, freeRow, live, matched, openWith, ordered, swept};
 ghost use Rattle.definitions.specs.Refusals.{liveWith, openBelow};
 ghost use Rattle.definitions.specs.Lists.{any, count};
+use counters::counted;
+use counters::takes_row;
 use definitions::Desk;
 use definitions::Order;
 use definitions::Verdict;
+use definitions::codes::DESK_ROWS;
 use order_rows::cancelled_row;
 use order_rows::expired_row;
 use order_rows::free_row;
@@ -20,10 +22,6 @@ use order_rows::open_with;
 use order_rows::row_of_order;
 use order_rows::swept_row;
 
-const MP: u32 = 3;
-
-const MOST_COUNTED: u32 = 4_294_967_295;
-
 // "removes the desk's ATO and ATC rows"
 pub fn swept(d: Desk) -> Desk
     ensures { λ r. ⌜ r ≡ swept d ⌝ }
@@ -31,7 +29,7 @@ pub fn swept(d: Desk) -> Desk
     let mut closed = emptied(d.accepted, d.warned, d.rejected);
     let mut n: usize = 0;
     let mut i: usize = 0;
-    while i < 32 {
+    while i < DESK_ROWS {
         let row = swept_row(d.rows[i]);
         i += 1;
         if row.mark != 0 {
@@ -49,7 +47,7 @@ pub fn cancelled(number: u32, clock: u32, d: Desk) -> Desk
     let mut closed = emptied(d.accepted, d.warned, d.rejected);
     let mut n: usize = 0;
     let mut i: usize = 0;
-    while i < 32 {
+    while i < DESK_ROWS {
         let row = cancelled_row(number, clock, d.rows[i]);
         i += 1;
         if row.mark != 0 {
@@ -67,7 +65,7 @@ pub fn matched(number: u32, volume: u32, d: Desk) -> Desk
     let mut closed = emptied(d.accepted, d.warned, d.rejected);
     let mut n: usize = 0;
     let mut i: usize = 0;
-    while i < 32 {
+    while i < DESK_ROWS {
         let row = matched_row(number, volume, d.rows[i]);
         i += 1;
         if row.mark != 0 {
@@ -89,19 +87,12 @@ pub fn ordered(v: Verdict, clock: u32, o: Order, d: Desk) -> Desk
     after
 }
 
-// "Accepted or warned, not MP"
-pub fn takes_row(v: Verdict, o: Order) -> bool
-    ensures { λ r. ⌜ r ≡ takesRow v o ⌝ }
-{
-    !rejects(v) & (o.ordtype != MP)
-}
-
 // 9: "order number equal to that of an open row or a row cancelled at most 60,000 ms ago"
 pub fn number_live(clock: u32, number: u32, d: Desk) -> bool
     ensures { λ r. ⌜ r ≡ any (liveWith clock number) (d .rows) ⌝ }
 {
     let mut i: usize = 0;
-    while i < 32 {
+    while i < DESK_ROWS {
         if live_with(clock, number, d.rows[i]) {
             return true;
         }
@@ -115,7 +106,7 @@ pub fn number_open(number: u32, d: Desk) -> bool
     ensures { λ r. ⌜ r ≡ any (openWith number) (d .rows) ⌝ }
 {
     let mut i: usize = 0;
-    while i < 32 {
+    while i < DESK_ROWS {
         if open_with(number, d.rows[i]) {
             return true;
         }
@@ -129,7 +120,7 @@ pub fn volume_short(number: u32, volume: u32, d: Desk) -> bool
     ensures { λ r. ⌜ r ≡ any (openBelow number volume) (d .rows) ⌝ }
 {
     let mut i: usize = 0;
-    while i < 32 {
+    while i < DESK_ROWS {
         if open_below(number, volume, d.rows[i]) {
             return true;
         }
@@ -144,7 +135,7 @@ pub fn live_rows(clock: u32, d: Desk) -> u32
 {
     let mut n: u32 = 0;
     let mut i: usize = 0;
-    while i < 32 {
+    while i < DESK_ROWS {
         let counts = is_live(clock, d.rows[i]);
         i += 1;
         if counts {
@@ -176,7 +167,7 @@ fn added(clock: u32, o: Order, d: Desk) -> Desk
     let mut closed = emptied(d.accepted, d.warned, d.rejected);
     let mut n: usize = 0;
     let mut i: usize = 0;
-    while i < 32 {
+    while i < DESK_ROWS {
         let row = expired_row(clock, d.rows[i]);
         i += 1;
         if row.mark != 0 {
@@ -186,64 +177,8 @@ fn added(clock: u32, o: Order, d: Desk) -> Desk
     }
     // Refusal 12 keeps an order from a full desk, which would stay as it is.
     let place = n;
-    if place < 32 {
+    if place < DESK_ROWS {
         closed.rows[place] = last;
     }
     closed
-}
-
-// "Each verdict adds 1 to its counter"
-fn counted(v: Verdict, d: Desk) -> Desk
-    ensures { λ r. ⌜ r ≡ counted v d ⌝ }
-{
-    let rejected = rejects(v);
-    let warned = warns(v);
-    let mut after = d;
-    after.accepted = counted_if(!rejected & !warned, d.accepted);
-    after.warned = counted_if(warned, d.warned);
-    after.rejected = counted_if(rejected, d.rejected);
-    after
-}
-
-// "each stays at 4,294,967,295 once there"
-fn counted_if(counts: bool, n: u32) -> u32
-    ensures { λ r. ⌜ r ≡ cond counts (countedUp n) n ⌝ }
-{
-    if !counts {
-        return n;
-    }
-    if n < MOST_COUNTED {
-        return n + 1;
-    }
-    n
-}
-
-fn rejects(v: Verdict) -> bool
-    ensures { λ r. ⌜ r ≡ rejects v ⌝ }
-{
-    match v {
-        Verdict::RejectS => true,
-        Verdict::RejectV => true,
-        Verdict::RejectQ => true,
-        Verdict::RejectW => true,
-        Verdict::RejectP => true,
-        Verdict::Warn30 => false,
-        Verdict::Warn10 => false,
-        Verdict::Accept => false,
-    }
-}
-
-fn warns(v: Verdict) -> bool
-    ensures { λ r. ⌜ r ≡ warns v ⌝ }
-{
-    match v {
-        Verdict::RejectS => false,
-        Verdict::RejectV => false,
-        Verdict::RejectQ => false,
-        Verdict::RejectW => false,
-        Verdict::RejectP => false,
-        Verdict::Warn30 => true,
-        Verdict::Warn10 => true,
-        Verdict::Accept => false,
-    }
 }

@@ -8,25 +8,16 @@ use definitions::Answer;
 use definitions::Event;
 use definitions::Reading;
 
-mod cancel;
-mod clock;
-mod history;
-mod match_report;
-mod order;
-mod prices;
-mod session;
-mod setup;
+mod answers;
 
-pub use history::answer_number;
-pub use history::run;
-pub use history::run_list;
+pub use answers::answer_number;
 
 // One event's bytes, handed to the gate over lent words. Total on every slice of words and of bytes.
 pub fn handle(words: &mut [u32], event: &[u8]) -> Answer
     ensures { λ r.
         ⌜ result r (now (words .exit)) ≡ resultOf (now (words .entry)) (step (now (words .entry)) (now (event .entry))) ⌝ }
 {
-    if !records::state_fits(words) {
+    if !state::state_fits(words) {
         return Answer::Refused(1);
     }
     let reading = events::read_event(event);
@@ -41,13 +32,13 @@ pub fn make(words: &mut [u32], customers: u32, securities: u32) -> Answer
     ensures { λ r.
         ⌜ result r (now (words .exit)) ≡ resultOf (now (words .entry)) (made (now (words .entry)) customers securities) ⌝ }
 {
-    if !records::sizes_fit(customers, securities) {
+    if !state::sizes_fit(customers, securities) {
         return Answer::Refused(1);
     }
-    if words.len() != records::desk_place(securities, customers) {
+    if words.len() != state::desk_place(securities, customers) {
         return Answer::Refused(1);
     }
-    records::make_fresh(words, customers, securities);
+    state::make_fresh(words, customers, securities);
     Answer::Ok
 }
 
@@ -56,13 +47,13 @@ fn apply(words: &mut [u32], event: Event) -> Answer
     ensures { λ r. ⌜ result r (now (words .exit)) ≡ resultOf (now (words .entry)) (stepEvent (now (words .entry)) event) ⌝ }
 {
     match event {
-        Event::Clock(time) => clock::handle(words, time),
-        Event::Session(s) => session::handle(words, s),
-        Event::Setup(x) => setup::handle(words, x),
-        Event::Prices(x) => prices::handle(words, x),
-        Event::Order(k, x) => order::handle(words, k, x),
-        Event::Cancel(k, x) => cancel::handle(words, k, x),
-        Event::Match(k, x) => match_report::handle(words, k, x),
+        Event::Clock(time) => market_events::clock::handle(words, time),
+        Event::Session(s) => market_events::session::handle(words, s),
+        Event::Setup(x) => market_events::setup::handle(words, x),
+        Event::Prices(x) => market_events::prices::handle(words, x),
+        Event::Order(k, x) => customer_events::order::handle(words, k, x),
+        Event::Cancel(k, x) => customer_events::cancel::handle(words, k, x),
+        Event::Match(k, x) => customer_events::match_report::handle(words, k, x),
     }
 }
 

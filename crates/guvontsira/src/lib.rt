@@ -6,7 +6,7 @@ ghost use Rattle.definitions.specs.Answers.{answerNumber};
 ghost use Rattle.definitions.specs.Gate.{answerOf, wordsOf, step, made};
 ghost use lib.ListN.{length, take};
 ghost use Rattle.definitions.specs.Walk.{split};
-ghost use Rattle.gate.specs.Ran.{Ran, cut};
+ghost use Rattle.histories.specs.Ran.{Ran, cut};
 use ladder::Ladder;
 use ladder::Position;
 
@@ -33,7 +33,7 @@ pub extern "C" fn guvontsira_run(words: &mut [u32], events: &[u8], answers: &mut
     ensures { λ count.
         ⌜ Ran (now (words .entry)) (split (length (now (answers .entry))) (now (events .entry))) (now (answers .entry)) count (now (words .exit)) (now (answers .exit)) ⌝ }
 {
-    gate::run(words, events, answers)
+    histories::run(words, events, answers)
 }
 
 #[no_mangle]
@@ -46,7 +46,7 @@ pub extern "C" fn guvontsira_run_list(
     ensures { λ count.
         ⌜ Ran (now (words .entry)) (cut (take (length (now (answers .entry))) (now (lengths .entry))) (now (events .entry))) (now (answers .entry)) count (now (words .exit)) (now (answers .exit)) ⌝ }
 {
-    gate::run_list(words, events, lengths, answers)
+    histories::run_list(words, events, lengths, answers)
 }
 
 // 0 for a price off the ladder.

@@ -7,12 +7,9 @@ ghost use Rattle.definitions.specs.Desks.{cancelledRow, expiredRow, freeRow, li
 ghost use Rattle.definitions.specs.Refusals.{liveWith, openBelow};
 use definitions::Order;
 use definitions::Row;
-
-const OPEN: u32 = 1;
-
-const CANCELLED: u32 = 2;
-
-const LIMIT: u32 = 0;
+use definitions::codes::CANCELLED_MARK;
+use definitions::codes::LIMIT;
+use definitions::codes::OPEN_MARK;
 
 pub fn free_row() -> Row
     ensures { λ r. ⌜ r ≡ freeRow ⌝ }
@@ -42,7 +39,7 @@ pub fn is_live(clock: u32, r: Row) -> bool
     ensures { λ t. ⌜ t ≡ live clock r ⌝ }
 {
     let recent = within_minute(clock, r.cancel_time);
-    (r.mark == OPEN) | ((r.mark == CANCELLED) & recent)
+    (r.mark == OPEN_MARK) | ((r.mark == CANCELLED_MARK) & recent)
 }
 
 // The number is asked first here and below: in a walk over a desk's rows it is what most of them fail.
@@ -55,7 +52,7 @@ pub fn live_with(clock: u32, number: u32, r: Row) -> bool
 pub fn open_with(number: u32, r: Row) -> bool
     ensures { λ t. ⌜ t ≡ openWith number r ⌝ }
 {
-    (r.number == number) && (r.mark == OPEN)
+    (r.number == number) && (r.mark == OPEN_MARK)
 }
 
 pub fn open_below(number: u32, volume: u32, r: Row) -> bool
@@ -79,7 +76,7 @@ pub fn expired_row(clock: u32, r: Row) -> Row
     ensures { λ s. ⌜ s ≡ expiredRow clock r ⌝ }
 {
     let near = within_minute(clock, r.cancel_time);
-    if (r.mark == CANCELLED) & !near {
+    if (r.mark == CANCELLED_MARK) & !near {
         return free_row();
     }
     r
@@ -96,7 +93,7 @@ pub fn cancelled_row(number: u32, clock: u32, r: Row) -> Row
         return free_row();
     }
     let mut cancelled = r;
-    cancelled.mark = CANCELLED;
+    cancelled.mark = CANCELLED_MARK;
     cancelled.cancel_time = clock;
     cancelled
 }
@@ -121,7 +118,7 @@ pub fn row_of_order(o: Order) -> Row
     ensures { λ r. ⌜ r ≡ rowOfOrder o ⌝ }
 {
     Row {
-        mark: OPEN,
+        mark: OPEN_MARK,
         number: o.number,
         security: o.security,
         board: o.board,

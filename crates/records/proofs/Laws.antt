@@ -15,19 +15,6 @@ use Rattle.definitions.specs.declared.Row.{Row}
 use Rattle.definitions.specs.declared.Desk.{Desk}
 use Rattle.definitions.specs.State.{rowSize, rowOf, rowWords, rowsOf, rowsWords, deskPlace, deskWords, putDesk}
 
--- a loop that copies words in from a place on
-pub copied-next : (w : List ℕ) (at : ℕ) (xs : List ℕ) (i : ℕ) → at + i < length w → i < length xs
-    → set (paste w at xs i) (at + i) (getD xs i 0) ≡ paste w at xs (i + 1)
-copied-next w at xs i h k = rw add-one (paste-suc w at xs i 0 h k)
-
-pub copied-all : (w : List ℕ) (at : ℕ) (xs : List ℕ) → paste w at xs (length xs) ≡ put w at xs
-unfolding put
-copied-all w at xs = rw (take-length, append-assoc)
-
--- the length of an array of records, which the logic says of their machine values
-pub length-mapped : {A B : Type 0} (f : A → B) (xs : List A) {n : ℕ} → length (map f xs) ≡ n → length xs ≡ n
-length-mapped f xs e = sym (length-map xs f) ∙ e
-
 -- the code's part of a slice from a place on
 pub part-is : (w : List ℕ) (place n : ℕ) {at : ℕ} → at ≡ place → take (at + n - at) (drop at w) ≡ part w place n
 unfolding part

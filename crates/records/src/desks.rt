@@ -3,10 +3,11 @@ ghost use mathlib.Core.Path.{_≡_};
 ghost use Prim.Native.Nat.{_+_, _≤_};
 ghost use lib.ListN.{length, getD, drop};
 ghost use Rattle.definitions.specs.State.{deskPlace, rowOf, rowWords, rowsOf, deskOf, deskAt, putDesk};
-use crate::words::copy_in;
-use crate::words::desk_place;
 use definitions::Desk;
 use definitions::Row;
+use definitions::codes::DESK_ROWS;
+use state::copy_in;
+use state::desk_place;
 
 pub fn row_of(words: &[u32]) -> Row
     requires { ⌜ length (now words) ≡ 9 ⌝ }
@@ -43,7 +44,7 @@ fn rows_of(words: &[u32]) -> [Row; 32]
     };
     let mut rows = [free; 32];
     let mut i = 0;
-    while i < 32 {
+    while i < DESK_ROWS {
         let at = 3 + 9 * i;
         rows[i] = row_of(&words[at..at + 9]);
         i += 1;
@@ -95,7 +96,7 @@ pub fn put_desk(words: &mut [u32], k: u32, d: Desk)
     let at = desk_place(words[1], k);
     copy_in(words, at, &[d.accepted, d.warned, d.rejected]);
     let mut i = 0;
-    while i < 32 {
+    while i < DESK_ROWS {
         let row = d.rows[i];
         copy_in(words, at + 3 + 9 * i, &row_words(row));
         i += 1;

@@ -3,10 +3,10 @@ ghost use mathlib.Core.Path.{_≡_};
 ghost use Prim.Native.Nat.{_+_, _≤_};
 ghost use lib.ListN.{length};
 ghost use Rattle.definitions.specs.State.{securityPlace, securityOf, securityWords, securityAt, putSecurity};
-use crate::words::copy_in;
-use crate::words::security_place;
 use definitions::Board;
 use definitions::Security;
+use state::copy_in;
+use state::security_place;
 
 fn security_of(words: &[u32]) -> Security
     requires { ⌜ length (now words) ≡ 13 ⌝ }

@@ -1,53 +1,16 @@
--- The laws that the proofs of the rules cite: of tests that a call made, of a loop over rows, and of the first rule that applies.
+-- The laws that the proof of the verdict cites: of orders that W and P do not concern, and of the first rule that applies.
 -- Assumes nothing.
-use mathlib.Core.Bool.{Bool, true, false, _||_, not}
-use mathlib.Core.List.{List, map}
-use mathlib.Core.Path.{_≡_, refl, sym, _∙_}
-use Prim.Native.Nat.{ℕ, _<_, _≤_, _+_}
-use native.Mathlib.Omega.{arith}
+use mathlib.Core.Bool.{true, false}
+use mathlib.Core.Path.{_≡_}
+use Prim.Native.Nat.{ℕ}
 use lib.Dec.{eqb}
-use lib.ListN.{length, getD, drop, length-map}
-use borrow.Author.Tests.{not-true, not-false}
 use Rattle.definitions.specs.declared.Security.{Security}
-use Rattle.definitions.specs.declared.Row.{Row}
 use Rattle.definitions.specs.declared.Desk.{Desk}
 use Rattle.definitions.specs.declared.Order.{Order}
 use Rattle.definitions.specs.declared.Verdict.the-variants.{RejectS, RejectV, RejectQ, RejectW, RejectP, Warn30, Warn10, Accept}
-use Rattle.definitions.specs.Codes.{deskRows, online}
-use Rattle.definitions.specs.Lists.{any}
-use Rattle.definitions.proofs.Lists.{found-next, found-end}
+use Rattle.definitions.specs.Codes.{online}
 use Rattle.definitions.specs.Rules.{ruleS, ruleV, ruleQ, ruleW, ruleP, warn30, warn10, verdictOf}
-use Rattle.rules.specs.Parts.{concernsP}
-
--- what a call ensures of a test, and what an `if` found of the test
-pub known : {t u b : Bool} → t ≡ u → t ≡ b → u ≡ b
-known e h = sym e ∙ h
-
-pub refused : {t u : Bool} → t ≡ u → not t ≡ true → u ≡ false
-refused {t} e n = known e (not-true t n)
-
-pub passed : {t u : Bool} → t ≡ u → not t ≡ false → u ≡ true
-passed {t} e n = known e (not-false t n)
-
-pub length-mapped : {A B : Type 0} (f : A → B) (n : ℕ) (l : List A) → length (map f l) ≡ n → length l ≡ n
-length-mapped f n l e = sym (length-map l f) ∙ e
-
--- a loop over a desk's rows that looks for one: what it found so far, or is among the rows that are left
-pub record Seen (p : Row → Bool) (rows : List Row) (found : Bool) (i : ℕ) : Type 0 where
-  pub all : length rows ≡ deskRows
-  pub so-far : (found || any p (drop i rows)) ≡ any p rows
-
-module _ (p : Row → Bool) (rows : List Row) where
-  pub seen-none : length rows ≡ deskRows → Seen p rows false 0
-  seen-none n = record { all = n; so-far = refl }
-
-  pub seen-next : (found : Bool) (i : ℕ) (d : Row) (now : Bool) → i < deskRows → now ≡ p (getD rows i d) → Seen p rows found i
-      → Seen p rows (found || now) (i + 1)
-  seen-next found i d now h e seen =
-      record { all = seen .all; so-far = found-next p found rows i d now (omega (arith, seen .all)) e (seen .so-far) }
-
-  pub seen-end : (found : Bool) (i : ℕ) → deskRows ≤ i → Seen p rows found i → found ≡ any p rows
-  seen-end found i h seen = found-end p found rows i (omega (arith, seen .all)) (seen .so-far)
+use Rattle.row_rules.specs.Concerns.{concernsP}
 
 -- an order that W or P does not concern
 pub not-w : (session : ℕ) (s : Security) (d : Desk) (o : Order) → eqb (o .channel) online ≡ false → ruleW session s d o ≡ false

@@ -2,28 +2,19 @@
 // number and no words.
 ghost use mathlib.Core.Path.{_≡_};
 ghost use Rattle.definitions.specs.Rules.{verdictOf};
-
-mod bands;
-mod boards;
-mod codes;
-mod hours;
-mod positions;
-mod rows;
-mod size;
-
-use crate::bands::rule_q;
-use crate::bands::warn_30;
-use crate::codes::ONLINE;
-use crate::hours::rule_s;
-use crate::positions::warn_10;
-use crate::rows::concerns_p;
-use crate::rows::rule_p;
-use crate::rows::rule_w;
-use crate::size::rule_v;
 use definitions::Desk;
 use definitions::Order;
 use definitions::Security;
 use definitions::Verdict;
+use definitions::codes::ONLINE;
+use market_rules::rule_q;
+use market_rules::rule_s;
+use market_rules::rule_v;
+use market_rules::warn_10;
+use market_rules::warn_30;
+use row_rules::concerns_p;
+use row_rules::rule_p;
+use row_rules::rule_w;
 
 // The rows are walked only for an order that S, V and Q let pass. W and P are asked only of an order that they concern ("online only"),
 // since each call copies the desk.

@@ -5,7 +5,8 @@ use Prim.Native.Nat.{_-_}
 use native.Mathlib.Omega.{arith}
 use borrow.Author.Needs.{needs}
 use Rattle.definitions.specs.Desks.{expiredRow, added}
-use Rattle.desks.proofs.Laws.{length-mapped, Closing, closing-start, closing-kept, closing-free, closing-added, closing-full}
+use Rattle.definitions.proofs.Lists.{length-mapped}
+use Rattle.desks.proofs.Laws.{Closing, closing-start, closing-kept, closing-free, closing-added, closing-full}
 use Rattle.desks.proofs.added.Statement.{statement}
 use Rattle.desks.proofs.added.Tie as tie
 

@@ -4,7 +4,8 @@ use Prim.Native.Nat.{_-_}
 use native.Mathlib.Omega.{arith}
 use borrow.Author.Needs.{needs}
 use Rattle.definitions.specs.Desks.{cancelledRow, cancelled}
-use Rattle.desks.proofs.Laws.{length-mapped, Closing, closing-start, closing-kept, closing-free, closing-end}
+use Rattle.definitions.proofs.Lists.{length-mapped}
+use Rattle.desks.proofs.Laws.{Closing, closing-start, closing-kept, closing-free, closing-end}
 use Rattle.desks.proofs.cancelled.Statement.{statement}
 use Rattle.desks.proofs.cancelled.Tie as tie
 

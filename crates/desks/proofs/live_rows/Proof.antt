@@ -4,7 +4,8 @@ use Prim.Native.Nat.{_-_}
 use native.Mathlib.Omega.{arith}
 use borrow.Author.Needs.{needs}
 use Rattle.definitions.specs.Desks.{live}
-use Rattle.desks.proofs.Laws.{length-mapped, Counting, counting-start, counting-more, counting-same, counting-end}
+use Rattle.definitions.proofs.Lists.{length-mapped}
+use Rattle.desks.proofs.Laws.{Counting, counting-start, counting-more, counting-same, counting-end}
 use Rattle.desks.proofs.live_rows.Statement.{statement}
 use Rattle.desks.proofs.live_rows.Tie as tie
 

@@ -7,7 +7,8 @@ use borrow.Author.Tests.{ne-eqb}
 use Rattle.definitions.specs.declared.Security.{Security}
 use Rattle.definitions.specs.declared.Desk.{Desk}
 use Rattle.definitions.specs.declared.Order.{Order}
-use Rattle.rules.proofs.Laws.{known, PastS, PastV, PastQ, PastW, PastP, Past30, Past10}
+use Rattle.definitions.proofs.Tests.{known}
+use Rattle.rules.proofs.Laws.{PastS, PastV, PastQ, PastW, PastP, Past30, Past10}
 use Rattle.rules.proofs.Laws.{first-s, first-v, first-q, first-w, first-p, first-30, first-10, first-none, not-w, not-p}
 use Rattle.rules.proofs.verdict.Statement.{statement}
 use Rattle.rules.proofs.verdict.Tie as tie

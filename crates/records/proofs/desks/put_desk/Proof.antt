@@ -4,7 +4,8 @@ use mathlib.Core.Path.{_≡_, _∙_}
 use lib.ListN.{length}
 use Prim.Native.Nat.{_+_, _-_, _≤_}
 use native.Mathlib.Omega.{arith}
-use Rattle.records.proofs.Laws.{length-mapped, Written, written-none, written-next, desk-written}
+use Rattle.definitions.proofs.Lists.{length-mapped}
+use Rattle.records.proofs.Laws.{Written, written-none, written-next, desk-written}
 use borrow.Author.Needs.{needs}
 use Rattle.records.proofs.desks.put_desk.Statement.{statement}
 use Rattle.records.proofs.desks.put_desk.Tie as tie

@@ -1,0 +1,104 @@
+-- What the tests of an order, a cancel and a match report say of the conditions, over plain variables: h, s and d are what the code took out of the words.
+-- Assumes nothing.
+use mathlib.Core.Bool.{Bool, true, false, _&&_, _||_, not, and-false}
+use mathlib.Core.List.{List}
+use mathlib.Core.Path.{_≡_, refl, ap, ap₂, sym, _∙_}
+use Prim.Native.Nat.{ℕ}
+use lib.Dec.{eqb}
+use borrow.Author.Tests.{ne-eqb, eq-eqb}
+use Rattle.definitions.specs.declared.Header.{Header}
+use Rattle.definitions.specs.declared.Security.{Security}
+use Rattle.definitions.specs.declared.Desk.{Desk}
+use Rattle.definitions.specs.declared.Order.{Order}
+use Rattle.definitions.specs.declared.Cancel.{Cancel}
+use Rattle.definitions.specs.declared.Match.{Match}
+use Rattle.definitions.specs.declared.Verdict.{Verdict}
+use Rattle.definitions.specs.declared.Event.the-variants as event
+use Rattle.definitions.specs.declared.Answer.the-variants as answer
+use Rattle.definitions.specs.Lists.{any, count}
+use Rattle.definitions.specs.State.{headerOf, securityAt, deskAt, putDesk}
+use Rattle.definitions.specs.Sound.{soundSecurity}
+use Rattle.definitions.specs.Desks.{live, openWith, takesRow, ordered, cancelled, matched}
+use Rattle.definitions.specs.Rules.{verdictOf}
+use Rattle.definitions.specs.Refusals.{liveWith, openBelow, numberTaken, noOpenRow, matchVolume, deskFull}
+use Rattle.definitions.specs.Gate.{result, resultOf, viewOf, soundDeskAt, unsound, perform}
+
+module _ (w : List ℕ) where
+  module _ (k : ℕ) (o : Order) {h : Header} {s : Security} {d : Desk} (eh : h ≡ headerOf w) (es : s ≡ securityAt w (o .security)) (ed : d ≡ deskAt w k) where
+    pub order-taken : {t : Bool} (b : Bool) → t ≡ any (liveWith (h .clock) (o .number)) (d .rows) → t ≡ b → numberTaken (viewOf w (event.Order k o)) (event.Order k o) ≡ b
+    unfolding numberTaken viewOf
+    order-taken b et e = sym (ap₂ (λ (x : Header) (y : Desk). any (liveWith (x .clock) (o .number)) (y .rows)) eh ed) ∙ sym et ∙ e
+
+    module _ {v : Verdict} (ev : v ≡ verdictOf (h .session) (h .clock) s d o) where
+      order-verdict : v ≡ verdictOf (headerOf w .session) (headerOf w .clock) (securityAt w (o .security)) (deskAt w k) o
+      order-verdict = ev ∙ ap₂ (λ (x : Header) (y : Security). verdictOf (x .session) (x .clock) y d o) eh es ∙ ap (λ (y : Desk). verdictOf (headerOf w .session) (headerOf w .clock) (securityAt w (o .security)) y o) ed
+
+      pub order-full : {t : Bool} (b : Bool) → t ≡ (takesRow v o && eqb (count (live (h .clock)) (d .rows)) 32) → t ≡ b → deskFull (viewOf w (event.Order k o)) (event.Order k o) ≡ b
+      unfolding deskFull viewOf
+      order-full b et e =
+          sym
+          (ap (λ (x : Verdict). takesRow x o && eqb (count (live (h .clock)) (d .rows)) 32) order-verdict
+          ∙ ap₂ (λ (x : Header) (y : Desk). takesRow (verdictOf (headerOf w .session) (headerOf w .clock) (securityAt w (o .security)) (deskAt w k) o) o && eqb (count (live (x .clock)) (y .rows)) 32) eh ed)
+          ∙ sym et
+          ∙ e
+
+      pub order-done : {x : Desk} {after : List ℕ} → x ≡ ordered v (h .clock) o d → after ≡ putDesk w k x → result (answer.Verdict v) after ≡ resultOf w (perform w (event.Order k o))
+      unfolding perform
+      order-done ex ew =
+          ap (result (answer.Verdict v)) ew
+          ∙ ap (λ (y : Desk). result (answer.Verdict v) (putDesk w k y)) ex
+          ∙ ap (λ (y : Verdict). result (answer.Verdict y) (putDesk w k (ordered y (h .clock) o d))) order-verdict
+          ∙ ap₂ (λ (x : Header) (y : Desk). result (answer.Verdict (verdictOf (headerOf w .session) (headerOf w .clock) (securityAt w (o .security)) (deskAt w k) o)) (putDesk w k (ordered (verdictOf (headerOf w .session) (headerOf w .clock) (securityAt w (o .security)) (deskAt w k) o) (x .clock) o y))) eh ed
+
+  module _ (k : ℕ) (o : Order) {s : Security} (es : s ≡ securityAt w (o .security)) where
+    order-sound : (a b t : Bool) → a ≡ soundSecurity s → b ≡ soundDeskAt w k → not (a && b) ≡ t → unsound w (event.Order k o) ≡ t
+    unfolding unsound
+    order-sound a b t ea eb e = ap₂ (λ (x y : Bool). not (x && y)) (sym (ea ∙ ap soundSecurity es)) (sym eb) ∙ e
+
+    pub order-security-unsound : {a : Bool} → a ≡ soundSecurity s → a ≡ false → unsound w (event.Order k o) ≡ true
+    order-security-unsound {a} ea e = order-sound a (soundDeskAt w k) true ea refl (ap (λ (x : Bool). not (x && soundDeskAt w k)) e)
+
+    pub order-desk-unsound : {a b : Bool} → a ≡ soundSecurity s → b ≡ soundDeskAt w k → b ≡ false → unsound w (event.Order k o) ≡ true
+    order-desk-unsound {a} {b} ea eb e = order-sound a b true ea eb (ap (λ (x : Bool). not (a && x)) e ∙ ap not (and-false a))
+
+    pub order-all-sound : {a b : Bool} → a ≡ soundSecurity s → b ≡ soundDeskAt w k → a ≡ true → b ≡ true → unsound w (event.Order k o) ≡ false
+    order-all-sound {a} {b} ea eb at bt = order-sound a b false ea eb (ap₂ (λ (x y : Bool). not (x && y)) at bt)
+
+  pub cancel-sound : (k : ℕ) (x : Cancel) {a : Bool} (t : Bool) → a ≡ soundDeskAt w k → not a ≡ t → unsound w (event.Cancel k x) ≡ t
+  unfolding unsound
+  cancel-sound k x t ea e = ap not (sym ea) ∙ e
+
+  pub match-sound : (k : ℕ) (x : Match) {a : Bool} (t : Bool) → a ≡ soundDeskAt w k → not a ≡ t → unsound w (event.Match k x) ≡ t
+  unfolding unsound
+  match-sound k x t ea e = ap not (sym ea) ∙ e
+
+  -- a desk's open rows, as a cancel and a match report ask for them
+  module _ (k : ℕ) {h : Header} {d : Desk} (eh : h ≡ headerOf w) (ed : d ≡ deskAt w k) where
+    pub cancel-open : (x : Cancel) {a : Bool} (t : Bool) → a ≡ any (openWith (x .number)) (d .rows) → not a ≡ t → noOpenRow (viewOf w (event.Cancel k x)) (event.Cancel k x) ≡ t
+    unfolding noOpenRow viewOf
+    cancel-open x t ea e = ap not (sym (ea ∙ ap (λ (y : Desk). any (openWith (x .number)) (y .rows)) ed)) ∙ e
+
+    pub match-open : (x : Match) {a : Bool} (t : Bool) → a ≡ any (openWith (x .number)) (d .rows) → not a ≡ t → noOpenRow (viewOf w (event.Match k x)) (event.Match k x) ≡ t
+    unfolding noOpenRow viewOf
+    match-open x t ea e = ap not (sym (ea ∙ ap (λ (y : Desk). any (openWith (x .number)) (y .rows)) ed)) ∙ e
+
+    pub match-none : (x : Match) → x .volume ≡ 0 → matchVolume (viewOf w (event.Match k x)) (event.Match k x) ≡ true
+    unfolding matchVolume viewOf
+    match-none x e = ap (λ (t : Bool). t || any (openBelow (x .number) (x .volume)) (deskAt w k .rows)) (eq-eqb (x .volume) 0 e)
+
+    pub match-short : (x : Match) {a : Bool} (t : Bool) → (x .volume ≡ 0 → ⊥) → a ≡ any (openBelow (x .number) (x .volume)) (d .rows) → a ≡ t → matchVolume (viewOf w (event.Match k x)) (event.Match k x) ≡ t
+    unfolding matchVolume viewOf
+    match-short x t some ea e =
+        ap (λ (b : Bool). b || any (openBelow (x .number) (x .volume)) (deskAt w k .rows)) (ne-eqb (x .volume) 0 some)
+        ∙ sym (ea ∙ ap (λ (y : Desk). any (openBelow (x .number) (x .volume)) (y .rows)) ed)
+        ∙ e
+
+    pub cancel-done : (x : Cancel) {y : Desk} {after : List ℕ} → y ≡ cancelled (x .number) (h .clock) d → after ≡ putDesk w k y → result answer.Ok after ≡ resultOf w (perform w (event.Cancel k x))
+    unfolding perform
+    cancel-done x ey ew =
+        ap (result answer.Ok) ew
+        ∙ ap (λ (y : Desk). result answer.Ok (putDesk w k y)) (ey ∙ ap₂ (λ (a : Header) (b : Desk). cancelled (x .number) (a .clock) b) eh ed)
+
+    pub match-done : (x : Match) {y : Desk} {after : List ℕ} → y ≡ matched (x .number) (x .volume) d → after ≡ putDesk w k y → result answer.Ok after ≡ resultOf w (perform w (event.Match k x))
+    unfolding perform
+    match-done x ey ew = ap (result answer.Ok) ew ∙ ap (λ (y : Desk). result answer.Ok (putDesk w k y)) (ey ∙ ap (matched (x .number) (x .volume)) ed)

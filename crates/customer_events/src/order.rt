@@ -1,0 +1,63 @@
+// Kind 5.
+ghost use mathlib.Core.Bool.{true, _&&_};
+ghost use mathlib.Core.Path.{_≡_};
+ghost use Rattle.definitions.specs.declared.Event.the-variants as event;
+ghost use Rattle.definitions.specs.State.{stateFits};
+ghost use lib.Dec.{eqb};
+ghost use Rattle.definitions.specs.Lists.{count};
+ghost use Rattle.definitions.specs.Desks.{live, takesRow};
+ghost use Rattle.definitions.specs.Refusals.{orderCodes};
+ghost use Rattle.definitions.specs.Gate.{result, resultOf, stepEvent};
+use definitions::Answer;
+use definitions::Desk;
+use definitions::Order;
+use definitions::Verdict;
+
+pub fn handle(words: &mut [u32], k: u32, o: Order) -> Answer
+    requires { ⌜ stateFits (now words) ≡ true ⌝ }
+    ensures { λ r. ⌜ result r (now (words .exit)) ≡ resultOf (now (words .entry)) (stepEvent (now (words .entry)) (event.Order k o)) ⌝ }
+{
+    let h = state::header_of(words);
+    if (h.customers <= k) | (h.securities <= o.security) {
+        return Answer::Refused(4);
+    }
+    if codes(o) {
+        return Answer::Refused(5);
+    }
+    if !soundness::priced_as(o.ordtype, o.price) {
+        return Answer::Refused(6);
+    }
+    let s = records::security_at(words, o.security);
+    if !soundness::sound_security(s) {
+        return Answer::Refused(8);
+    }
+    if !soundness::sound_desk_at(words, k) {
+        return Answer::Refused(8);
+    }
+    let d = records::desk_at(words, k);
+    if desks::number_live(h.clock, o.number, d) {
+        return Answer::Refused(9);
+    }
+    let v = rules::verdict(h.session, h.clock, s, d, o);
+    if full(v, h.clock, o, d) {
+        return Answer::Refused(12);
+    }
+    records::put_desk(words, k, desks::ordered(v, h.clock, o, d));
+    Answer::Verdict(v)
+}
+
+fn codes(o: Order) -> bool
+    ensures { λ r. ⌜ r ≡ orderCodes o ⌝ }
+{
+    (1 < o.board) | (1 < o.side) | (3 < o.ordtype) | (2 < o.channel) | (o.number == 0)
+}
+
+// The rows are counted only where the order would take one.
+fn full(v: Verdict, clock: u32, o: Order, d: Desk) -> bool
+    ensures { λ r. ⌜ r ≡ (takesRow v o && eqb (count (live clock) (d .rows)) 32) ⌝ }
+{
+    if !counters::takes_row(v, o) {
+        return false;
+    }
+    desks::live_rows(clock, d) == 32
+}

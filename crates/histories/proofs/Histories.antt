@@ -1,0 +1,246 @@
+-- A list of events, handled one after another: the first event and the rest, and demand 3 of the numbers that are written.
+-- Assumes nothing.
+use mathlib.Core.Bool.{Bool, true, false, cond}
+use mathlib.Core.List.{List, [], _∷_, _++_, map, append-assoc, append-nil}
+use mathlib.Core.Path.{_≡_, refl, ap, ap₂, sym, subst, _∙_}
+use Prim.Native.Nat.{ℕ, zero, suc, _+_, _-_, _≤_, _<_, min}
+use native.Mathlib.Nat.{add-sub-cancel-left}
+use native.Mathlib.Numerals.{add-one}
+use native.Mathlib.Omega.{arith}
+use lib.ListN.{length, getD, take, drop, set, drop-of-length-le, length-take, length-drop, length-set, take-append-drop}
+use lib.Seq.{take-all, drop-length, drop-drop, take-suc-set, drop-set-lt, getD-take, take-append-seam, drop-append-seam}
+use borrow.Author.Tests.{ne-eqb}
+use Rattle.definitions.specs.Lists.{keep}
+use Rattle.definitions.specs.State.{sizesFit, fresh, deskWords}
+use Rattle.definitions.specs.Gate.{stepWords, stepAnswer, wordsAfter, answersTo}
+use Rattle.definitions.specs.Lone.{loneFresh, loneAfter, loneAnswers, concerns, marketWords, customerWords}
+use Rattle.definitions.specs.Walk.{taken, split}
+use Rattle.definitions.specs.Answers.{answerNumber}
+use Rattle.definitions.proofs.Lists.{drop-next}
+use Rattle.definitions.proofs.Demands.{isolated}
+use Rattle.reader.proofs.Laws.{EventAt}
+use Rattle.histories.specs.Ran.{picked, Ran, cut, Ends}
+
+-- every event is answered
+abbrev pub every : List ℕ → Bool
+every b = true
+
+abbrev pub numbers : List ℕ → List (List ℕ) → List ℕ
+numbers w bs = map answerNumber (answersTo every w bs)
+
+pub split-none : (n : ℕ) (b : List ℕ) (at : ℕ) → length b ≤ at → split n (drop at b) ≡ []
+unfolding split
+split-none zero b at h = refl
+split-none (suc n) b at h = rw (drop-of-length-le b h)
+
+pub none-left : (most count : ℕ) (b : List ℕ) → most ≡ count → split (most - count) b ≡ []
+unfolding split
+none-left most count b e =
+    let nothing : most - count ≡ 0 = omega arith in
+    ap (λ (n : ℕ). split n b) nothing
+
+-- the event at a place, and those after it
+pub split-next : (n : ℕ) (b : List ℕ) (at end : ℕ) → EventAt b at end → split (suc n) (drop at b) ≡ take (end - at) (drop at b) ∷ split n (drop end b)
+unfolding split
+split-next n b at end here =
+    let left : length (drop at b) ≡ length b - at = length-drop at b in
+    let some : length (drop at b) ≡ 0 → ⊥ = λ e. omega (arith, here .some) in
+    let long : taken (drop at b) ≡ end - at = omega (arith, here .ends) in
+    let past : at + (end - at) ≡ end = omega (arith, here .grows) in
+    rw (ne-eqb (length (drop at b)) 0 some, long, drop-drop (end - at) at b, past)
+
+-- the numbers written to the events that a test picks are those of the answers to them
+picked-numbers : (p : List ℕ → Bool) (w : List ℕ) (bs : List (List ℕ)) → picked p bs (numbers w bs) ≡ map answerNumber (answersTo p w bs)
+unfolding picked answersTo
+picked-numbers p w [] = refl
+picked-numbers p w (b ∷ bs) = go (p b) (picked-numbers p (stepWords w b) bs)
+  where
+    go : (t : Bool) → picked p bs (numbers (stepWords w b) bs) ≡ map answerNumber (answersTo p (stepWords w b) bs)
+        → cond t (answerNumber (stepAnswer w b) ∷ picked p bs (numbers (stepWords w b) bs)) (picked p bs (numbers (stepWords w b) bs))
+        ≡ map answerNumber (cond t (stepAnswer w b ∷ answersTo p (stepWords w b) bs) (answersTo p (stepWords w b) bs))
+    go true ih = ap (λ (xs : List ℕ). answerNumber (stepAnswer w b) ∷ xs) ih
+    go false ih = ih
+
+-- what a loop over a history has done: count events are answered, and those that are left do the rest
+pub record SoFar (w₀ : List ℕ) (history : List (List ℕ)) (a₀ w a : List ℕ) (left : List (List ℕ)) (count : ℕ) : Type 0 where
+  pub long : length a ≡ length a₀
+  pub kept : length w ≡ length w₀
+  pub rest : drop count a ≡ drop count a₀
+  pub words : wordsAfter w left ≡ wordsAfter w₀ history
+  pub answers : take count a ++ numbers w left ≡ numbers w₀ history
+  pub counted : count + length left ≡ length history
+
+pub begin : (w a : List ℕ) (history : List (List ℕ)) → SoFar w history a w a history 0
+begin w a history = record { long = refl; kept = refl; rest = refl; words = refl; answers = refl; counted = omega arith }
+
+module _ (w₀ : List ℕ) (history : List (List ℕ)) (a₀ w a : List ℕ) (left : List (List ℕ)) (count : ℕ) (so-far : SoFar w₀ history a₀ w a left count) where
+  -- one event more
+  pub turn : (e : List ℕ) (more : List (List ℕ)) {v : List ℕ} {x : ℕ} → count < length a → left ≡ e ∷ more
+      → length v ≡ length w → v ≡ stepWords w e → x ≡ answerNumber (stepAnswer w e) → SoFar w₀ history a₀ v (set a count x) more (count + 1)
+  unfolding wordsAfter answersTo
+  turn e more {v} {x} h events same ev ex =
+      let stored : take (count + 1) (set a count x) ≡ take count a ++ (x ∷ []) = rw add-one (take-suc-set a count x h) in
+      record {
+        long = simp length-set (so-far .long);
+        kept = same ∙ so-far .kept;
+        rest =
+            drop-set-lt (count + 1) a count x (omega arith)
+            ∙ sym (drop-drop 1 count a)
+            ∙ ap (drop 1) (so-far .rest)
+            ∙ drop-drop 1 count a₀;
+        words = ap (λ (u : List ℕ). wordsAfter u more) ev ∙ ap (wordsAfter w) (sym events) ∙ so-far .words;
+        answers =
+            ap₂ (λ (t : List ℕ) (u : List ℕ). t ++ numbers u more) stored ev
+            ∙ append-assoc (take count a) (x ∷ []) (numbers (stepWords w e) more)
+            ∙ ap (λ (n : ℕ). take count a ++ (n ∷ numbers (stepWords w e) more)) ex
+            ∙ ap (λ (bs : List (List ℕ)). take count a ++ numbers w bs) (sym events)
+            ∙ so-far .answers;
+        counted = omega (arith, so-far .counted, ap length events);
+      }
+
+  -- nothing is left
+  pub finish : left ≡ [] → Ran w₀ history a₀ count w a
+  unfolding wordsAfter answersTo
+  finish none =
+      let after : w ≡ wordsAfter w₀ history = ap (wordsAfter w) (sym none) ∙ so-far .words in
+      let written : take count a ≡ numbers w₀ history =
+      sym (append-nil (take count a)) ∙ ap (λ (bs : List (List ℕ)). take count a ++ numbers w bs) (sym none) ∙ so-far .answers in
+      record {
+        events-counted = omega (arith, so-far .counted, ap length none);
+        words-after = after;
+        answers-written = sym (take-append-drop count a) ∙ ap₂ (λ (x y : List ℕ). x ++ y) written (so-far .rest);
+        alone =
+            λ customers securities fit start k below.
+            let i = isolated customers securities fit k below history in
+            let ends : w ≡ wordsAfter (fresh customers securities) history = after ∙ ap (λ (u : List ℕ). wordsAfter u history) start in
+            record {
+              answers-same =
+                  ap (picked (concerns customers k) history) written
+                  ∙ picked-numbers (concerns customers k) w₀ history
+                  ∙ ap (λ (u : List ℕ). map answerNumber (answersTo (concerns customers k) u history)) start
+                  ∙ ap (map answerNumber) (i .answers);
+              market-same = ap marketWords ends ∙ i .market;
+              desk-same = ap (λ (u : List ℕ). customerWords u k) ends ∙ i .desk;
+            };
+      }
+
+-- a loop over events one after another in bytes
+pub record Walks (w₀ b a₀ w a : List ℕ) (at count : ℕ) : Type 0 where
+  pub room : count ≤ length a₀
+  pub within : at ≤ length b
+  pub so-far : SoFar w₀ (split (length a₀) b) a₀ w a (split (length a₀ - count) (drop at b)) count
+
+pub walks-none : (w b a : List ℕ) → Walks w b a w a 0 0
+walks-none w b a =
+    let none : length a ≡ length a - 0 = omega arith in
+    record {
+      room = omega arith;
+      within = omega arith;
+      so-far = subst (λ (n : ℕ). SoFar w (split (length a) b) a w a (split n b) 0) none (begin w a (split (length a) b));
+    }
+
+pub walks-next : (w₀ b a₀ w a : List ℕ) (at count end : ℕ) {v : List ℕ} {x : ℕ} → Walks w₀ b a₀ w a at count → count < length a → EventAt b at end
+    → length v ≡ length w → v ≡ stepWords w (take (end - at) (drop at b)) → x ≡ answerNumber (stepAnswer w (take (end - at) (drop at b)))
+    → Walks w₀ b a₀ v (set a count x) end (count + 1)
+walks-next w₀ b a₀ w a at count end inv h here same ev ex =
+    let one-more : length a₀ - count ≡ suc (length a₀ - (count + 1)) = omega (arith, inv .so-far .long) in
+    record {
+      room = omega (arith, inv .so-far .long);
+      within = here .within;
+      so-far =
+          turn w₀ (split (length a₀) b) a₀ w a (split (length a₀ - count) (drop at b)) count (inv .so-far) (take (end - at) (drop at b)) (split (length a₀ - (count + 1)) (drop end b)) h
+          (ap (λ (n : ℕ). split n (drop at b)) one-more ∙ split-next (length a₀ - (count + 1)) b at end here)
+          same ev ex;
+    }
+
+-- a loop over events by their lengths: the first that the answers have places for
+pub record Cuts (w₀ b ns a₀ w a : List ℕ) (at count : ℕ) : Type 0 where
+  pub room : count ≤ length a₀
+  pub within : at ≤ length b
+  pub so-far : SoFar w₀ (cut (take (length a₀) ns) b) a₀ w a (cut (drop count (take (length a₀) ns)) (drop at b)) count
+
+pub cuts-none : (w b ns a : List ℕ) → Cuts w b ns a w a 0 0
+cuts-none w b ns a = record { room = omega arith; within = omega arith; so-far = begin w a (cut (take (length a) ns) b) }
+
+pub ends-past : (b : List ℕ) (at n : ℕ) → at ≤ length b → length b - at < n → Ends b at n (length b)
+ends-past b at n h short =
+    let left : length (drop at b) ≡ length b - at = length-drop at b in
+    record {
+      grows = h;
+      within = omega arith;
+      event = take-all (length b - at) (drop at b) (omega arith) ∙ sym (take-all n (drop at b) (omega arith));
+      after = drop-length b ∙ sym (drop-of-length-le (drop at b) {i = n} (omega arith));
+    }
+
+pub ends-within : (b : List ℕ) (at n : ℕ) → at ≤ length b → n ≤ length b - at → Ends b at n (at + n)
+ends-within b at n h room =
+    record {
+      grows = omega arith;
+      within = omega arith;
+      event = ap (λ (k : ℕ). take k (drop at b)) (add-sub-cancel-left at n);
+      after = sym (drop-drop n at b);
+    }
+
+pub cuts-next : (w₀ b ns a₀ w a : List ℕ) (at count end : ℕ) {v : List ℕ} {x : ℕ} → Cuts w₀ b ns a₀ w a at count → count < length a → count < length ns → Ends b at (getD ns count 0) end
+    → length v ≡ length w → v ≡ stepWords w (take (end - at) (drop at b)) → x ≡ answerNumber (stepAnswer w (take (end - at) (drop at b)))
+    → Cuts w₀ b ns a₀ v (set a count x) end (count + 1)
+unfolding cut
+cuts-next w₀ b ns a₀ w a at count end inv h some here same ev ex =
+    let listed : count < length (take (length a₀) ns) = omega (arith, length-take (length a₀) ns, inv .so-far .long) in
+    let first : getD (take (length a₀) ns) count 0 ≡ getD ns count 0 = getD-take (length a₀) ns count 0 (omega (arith, inv .so-far .long)) in
+    record {
+      room = omega (arith, inv .so-far .long);
+      within = here .within;
+      so-far =
+          turn w₀ (cut (take (length a₀) ns) b) a₀ w a (cut (drop count (take (length a₀) ns)) (drop at b)) count (inv .so-far) (take (end - at) (drop at b)) (cut (drop (count + 1) (take (length a₀) ns)) (drop end b)) h
+          (rw (drop-next (take (length a₀) ns) count 0 listed, first, here .event, here .after))
+          same ev ex;
+    }
+
+-- no length is left, or no place for an answer
+pub cuts-end : (ns b : List ℕ) (most count : ℕ) → min most (length ns) ≤ count → cut (drop count (take most ns)) b ≡ []
+unfolding cut
+cuts-end ns b most count h =
+    let past : length (take most ns) ≤ count = omega (arith, length-take most ns) in
+    ap (λ (ms : List ℕ). cut ms b) (drop-of-length-le (take most ns) past)
+
+-- every history can be handed in by its bytes and lengths
+abbrev pub joined : List (List ℕ) → List ℕ
+joined [] = []
+joined (e ∷ es) = e ++ joined es
+
+pub every-history : (history : List (List ℕ)) → cut (map length history) (joined history) ≡ history
+unfolding cut
+every-history [] = refl
+every-history (e ∷ es) = rw (take-append-seam e (joined es), drop-append-seam e (joined es), every-history es)
+
+-- a history that is handed in by two calls
+pub after-joined : (w : List ℕ) (h g : List (List ℕ)) → wordsAfter w (h ++ g) ≡ wordsAfter (wordsAfter w h) g
+unfolding wordsAfter
+after-joined w [] g = refl
+after-joined w (e ∷ h) g = after-joined (stepWords w e) h g
+
+pub answers-joined : (w : List ℕ) (h g : List (List ℕ)) → numbers w (h ++ g) ≡ numbers w h ++ numbers (wordsAfter w h) g
+unfolding wordsAfter answersTo
+answers-joined w [] g = refl
+answers-joined w (e ∷ h) g = ap (λ (xs : List ℕ). answerNumber (stepAnswer w e) ∷ xs) (answers-joined (stepWords w e) h g)
+
+-- "Any two histories from fresh states of one size that hold the same market events and the same events of one customer, in the same order among
+-- themselves, are alike", of what two calls left
+pub record Alike (customers k : ℕ) (h g : List (List ℕ)) (answers others v x : List ℕ) : Type 0 where
+  pub answers-alike : picked (concerns customers k) h answers ≡ picked (concerns customers k) g others
+  pub market : marketWords v ≡ marketWords x
+  pub desk : customerWords v k ≡ customerWords x k
+
+pub ran-alike : (customers securities k : ℕ) → sizesFit customers securities ≡ true → k < customers → (h g : List (List ℕ)) {a b : List ℕ} {m n : ℕ} {v c x d : List ℕ}
+    → Ran (fresh customers securities) h a m v c → Ran (fresh customers securities) g b n x d → keep (concerns customers k) h ≡ keep (concerns customers k) g
+    → Alike customers k h g (take m c) (take n d) v x
+ran-alike customers securities k fit below h g one other same =
+    let lone = loneFresh customers securities in
+    let p = one .alone customers securities fit refl k below in
+    let q = other .alone customers securities fit refl k below in
+    record {
+      answers-alike = p .answers-same ∙ ap (λ (es : List (List ℕ)). map answerNumber (loneAnswers lone es)) same ∙ sym (q .answers-same);
+      market = p .market-same ∙ ap (λ (es : List (List ℕ)). loneAfter lone es .market) same ∙ sym (q .market-same);
+      desk = p .desk-same ∙ ap (λ (es : List (List ℕ)). deskWords (loneAfter lone es .desk)) same ∙ sym (q .desk-same);
+    }

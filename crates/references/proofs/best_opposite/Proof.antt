@@ -1,0 +1,13 @@
+-- `references::best_opposite` meets its contract: the choice is the definition's, term by term.
+-- Assumes nothing.
+use Rattle.references.proofs.best_opposite.Statement.{statement}
+use Rattle.references.proofs.best_opposite.Tie as tie
+
+pick-requires : tie.Need-pick-requires
+pick-requires c κs = tt
+
+returns : tie.Need-returns
+returns c = c .pick .ensures
+
+pub best-opposite-spec : {M : Type 1} → statement M
+best-opposite-spec = tie.close (tie.spec pick-requires returns)

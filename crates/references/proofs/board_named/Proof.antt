@@ -1,0 +1,14 @@
+-- `references::board_named` meets its contract: the test on the board's code picks the prices.
+-- Assumes nothing.
+use borrow.Author.Tests.{eq-eqb, ne-eqb}
+use Rattle.references.proofs.board_named.Statement.{statement}
+use Rattle.references.proofs.board_named.Tie as tie
+
+returns : tie.Need-returns
+returns c = rw (eq-eqb _ _ (c .before .if1 .taken))
+
+returns-2 : tie.Need-returns-2
+returns-2 c = rw (ne-eqb _ _ (c .before .if1 .left))
+
+pub board-named-spec : {M : Type 1} → statement M
+board-named-spec = tie.close (tie.spec returns returns-2)

@@ -1,0 +1,13 @@
+-- `references::first_day_ipo` meets its contract: the choice is the definition's, term by term.
+-- Assumes nothing.
+use Rattle.references.proofs.first_day_ipo.Statement.{statement}
+use Rattle.references.proofs.first_day_ipo.Tie as tie
+
+pick-requires : tie.Need-pick-requires
+pick-requires c κs = tt
+
+returns : tie.Need-returns
+returns c = c .pick .ensures
+
+pub first-day-ipo-spec : {M : Type 1} → statement M
+first-day-ipo-spec = tie.close (tie.spec pick-requires returns)

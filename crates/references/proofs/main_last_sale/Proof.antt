@@ -1,0 +1,13 @@
+-- `references::main_last_sale` meets its contract: the choice is the definition's, term by term.
+-- Assumes nothing.
+use Rattle.references.proofs.main_last_sale.Statement.{statement}
+use Rattle.references.proofs.main_last_sale.Tie as tie
+
+pick-requires : tie.Need-pick-requires
+pick-requires c κs = tt
+
+returns : tie.Need-returns
+returns c = c .pick .ensures
+
+pub main-last-sale-spec : {M : Type 1} → statement M
+main-last-sale-spec = tie.close (tie.spec pick-requires returns)

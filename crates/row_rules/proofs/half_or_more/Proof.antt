@@ -1,0 +1,15 @@
+-- `row_rules::half_or_more` meets its contract: the code's test is the definition's, term by term.
+-- Assumes nothing.
+use mathlib.Core.Path.{refl}
+use borrow.Author.Needs.{needs}
+use Rattle.row_rules.proofs.half_or_more.Statement.{statement}
+use Rattle.row_rules.proofs.half_or_more.Tie as tie
+
+mul-result : tie.Need-mul-result
+mul-result c = search needs
+
+returns : tie.Need-returns
+returns c = refl
+
+pub half-or-more-spec : {M : Type 1} → statement M
+half-or-more-spec = tie.close (tie.spec mul-result returns)

@@ -1,0 +1,14 @@
+-- `soundness::sound::price_or_absent` meets its contract: the ladder tells its legal prices.
+-- Assumes nothing.
+use borrow.Author.Needs.{needs}
+use Rattle.soundness.proofs.sound.price_or_absent.Statement.{statement}
+use Rattle.soundness.proofs.sound.price_or_absent.Tie as tie
+
+legal-requires : tie.Need-legal-requires
+legal-requires c κs = search needs
+
+returns : tie.Need-returns
+returns c = rw (c .legal .ensures)
+
+pub price-or-absent-spec : {M : Type 1} → statement M
+price-or-absent-spec = tie.close (tie.spec legal-requires returns)

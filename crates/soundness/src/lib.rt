@@ -1,0 +1,11 @@
+// Paper 01, "The lent state": whether a record is sound, and condition 8.
+mod every;
+mod rows;
+mod sound;
+
+pub use every::all_sound;
+pub use rows::sound_desk_at;
+pub use sound::price_or_absent;
+pub use sound::priced_as;
+pub use sound::sound_board;
+pub use sound::sound_security;

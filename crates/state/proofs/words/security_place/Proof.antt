@@ -1,0 +1,18 @@
+-- `state::words::security_place` meets its contract: the sum of the definition, which no number of 32 bits makes wrap.
+-- Assumes nothing.
+use mathlib.Core.Path.{refl}
+use native.Mathlib.Omega.{arith}
+use Rattle.state.proofs.words.security_place.Statement.{statement}
+use Rattle.state.proofs.words.security_place.Tie as tie
+
+mul-result : tie.Need-mul-result
+mul-result c = omega arith
+
+add-result : tie.Need-add-result
+add-result c = omega arith
+
+returns : tie.Need-returns
+returns c = refl
+
+pub security-place-spec : {M : Type 1} → statement M
+security-place-spec = tie.close (tie.spec mul-result add-result returns)

@@ -1,0 +1,30 @@
+-- `state::words::state_fits` meets its contract: fewer than 4 words fit no state, and of others each part of condition 1 is tested.
+-- Assumes nothing.
+use mathlib.Core.Path.{sym}
+use borrow.Author.Needs.{needs}
+use Rattle.definitions.specs.State.{stateFits}
+use Rattle.state.proofs.Fits.{no-header}
+use Rattle.state.proofs.words.state_fits.Statement.{statement}
+use Rattle.state.proofs.words.state_fits.Tie as tie
+
+returns : tie.Need-returns
+returns c = sym (no-header _ (c .if1 .taken))
+
+header-of-requires : tie.Need-header-of-requires
+header-of-requires c κs = search needs
+
+sizes-fit-requires : tie.Need-sizes-fit-requires
+sizes-fit-requires c κs = search needs
+
+desk-place-requires : tie.Need-desk-place-requires
+desk-place-requires c κs = search needs
+
+returns-2 : tie.Need-returns-2
+unfolding stateFits
+returns-2 c =
+    let place = c .before .before in
+    rw (place .before .sizes-fit .ensures, place .desk-place .ensures, place .before .before .header-of .ensures)
+
+pub state-fits-spec : {M : Type 1} → statement M
+state-fits-spec =
+    tie.close (tie.spec returns header-of-requires sizes-fit-requires desk-place-requires returns-2)
