@@ -8,21 +8,21 @@ use Rattle.definitions.specs.declared.Answer.{Answer}
 use Rattle.definitions.specs.declared.Answer.the-variants as answer
 use Rattle.definitions.specs.declared.Verdict.the-variants.{Accept, RejectS, RejectV}
 use Rattle.definitions.proofs.Bytes.{clock, session, setup, prices, order, cancel, match}
-use Rattle.definitions.proofs.Run.{answersOf, answerOn, wordsOf}
+use Rattle.definitions.proofs.Run.{answersOf, answerOn, wordsFrom, wordsOf}
 
--- a history, a damage of the words after it, and the event that meets them
+-- the words that an event meets, the event, and the right answer
 pub record Corner : Type 0 where
-  pub before : List (List ℕ)
-  pub damage : List ℕ → List ℕ
-  pub last : List ℕ
+  pub words : List ℕ
+  pub event : List ℕ
   pub right : Answer
 
+-- the words after a history from a fresh state
 abbrev pub met : List (List ℕ) → List ℕ → Answer → Corner
-met before last right = record { before = before; damage = λ w. w; last = last; right = right }
+met before event right = record { words = wordsOf 1 1 before; event = event; right = right }
 
--- one word set to another value
+-- and one of them set to another value
 abbrev pub damaged : List (List ℕ) → ℕ → ℕ → List ℕ → Answer → Corner
-damaged before place value last right = record { before = before; damage = λ w. set w place value; last = last; right = right }
+damaged before place value event right = record { words = set (wordsOf 1 1 before) place value; event = event; right = right }
 
 -- limit buys of 100 shares at 50.00, online, and other types without a price
 abbrev pub buy : ℕ → List ℕ
@@ -38,15 +38,27 @@ buys (suc n) = buys n ++ (buy (suc n) ∷ [])
 abbrev pub opened : List (List ℕ)
 opened = session 2 ∷ []
 
--- session 2 with a best offer, and desks of one and of 32 open rows
-abbrev pub offered : List (List ℕ)
-offered = session 2 ∷ prices 0 0 0 0 0 5025 ∷ []
-
 abbrev pub held : List (List ℕ)
 held = session 2 ∷ buy 1 ∷ []
 
-abbrev pub full : List (List ℕ)
-full = offered ++ buys 32
+-- session 2 with a best offer, and a desk of 32 open rows; its words are written out, so that the cases of 12 do not run the 32 orders each
+abbrev pub filling : List (List ℕ)
+filling = session 2 ∷ prices 0 0 0 0 0 5025 ∷ buys 32
+
+abbrev pub openRows : ℕ → List ℕ
+openRows zero = []
+openRows (suc n) = openRows n ++ (1 ∷ suc n ∷ 0 ∷ 0 ∷ 0 ∷ 0 ∷ 5000 ∷ 100 ∷ 0 ∷ [])
+
+abbrev pub fullWords : List ℕ
+fullWords = 1 ∷ 1 ∷ 0 ∷ 2 ∷ 100 ∷ 0 ∷ 0 ∷ 0 ∷ 0 ∷ 0 ∷ 0 ∷ 0 ∷ 5025 ∷ 0 ∷ 0 ∷ 0 ∷ 0 ∷ 32 ∷ 0 ∷ 0 ∷ openRows 32
+
+pub full-words : wordsOf 1 1 filling ≡ fullWords
+unfolding wordsOf
+full-words = refl
+
+-- the words after a history from the full desk
+abbrev pub full : List (List ℕ) → List ℕ → Answer → Corner
+full before event right = record { words = wordsFrom fullWords before; event = event; right = right }
 
 abbrev pub refused : ℕ → Answer
 refused n = answer.Refused n
@@ -114,17 +126,17 @@ corners =
     ∷ met held (match 0 1 101) (refused 11)
     ∷ met held (match 0 1 100) answer.Ok
     -- 12: not for MP, nor for an order that is rejected
-    ∷ met full (buy 33) (refused 12)
-    ∷ met full (typed 33 3) (answer.Verdict Accept)
-    ∷ met full (typed 33 1) (answer.Verdict RejectS)
-    ∷ met full (order 0 33 0 0 0 0 1 5000 150) (answer.Verdict RejectV)
-    ∷ met (full ++ (cancel 0 1 ∷ clock 60_000 ∷ [])) (buy 33) (refused 12)
-    ∷ met (full ++ (cancel 0 1 ∷ clock 60_001 ∷ [])) (buy 33) (answer.Verdict Accept)
+    ∷ full [] (buy 33) (refused 12)
+    ∷ full [] (typed 33 3) (answer.Verdict Accept)
+    ∷ full [] (typed 33 1) (answer.Verdict RejectS)
+    ∷ full [] (order 0 33 0 0 0 0 1 5000 150) (answer.Verdict RejectV)
+    ∷ full (cancel 0 1 ∷ clock 60_000 ∷ []) (buy 33) (refused 12)
+    ∷ full (cancel 0 1 ∷ clock 60_001 ∷ []) (buy 33) (answer.Verdict Accept)
     ∷ []
 
 abbrev pub answered : Corner → Answer
-answered c = answerOn (c .damage (wordsOf 1 1 (c .before))) (c .last)
+answered c = answerOn (c .words) (c .event)
 
 pub all-right : map answered corners ≡ map (λ (c : Corner). c .right) corners
-unfolding answersOf answerOn wordsOf
+unfolding answersOf answerOn wordsOf wordsFrom
 all-right = refl

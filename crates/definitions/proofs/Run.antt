@@ -22,10 +22,14 @@ unfoldable pub answerOn : List ℕ → List ℕ → Answer
 unfolding answersOf
 answerOn w b = gate.stepAnswer w b
 
--- the words after a history
-unfoldable pub wordsOf : ℕ → ℕ → List (List ℕ) → List ℕ
+-- the words after a history, over any words and from a fresh state
+unfoldable pub wordsFrom : List ℕ → List (List ℕ) → List ℕ
 unfolding answersOf gate.wordsAfter
-wordsOf customers securities history = gate.wordsAfter (state.fresh customers securities) history
+wordsFrom w history = gate.wordsAfter w history
+
+unfoldable pub wordsOf : ℕ → ℕ → List (List ℕ) → List ℕ
+unfolding wordsFrom
+wordsOf customers securities history = wordsFrom (state.fresh customers securities) history
 
 -- the answer to the last event of a history
 abbrev pub lastOf : List Answer → Answer → Answer
