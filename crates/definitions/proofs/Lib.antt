@@ -21,6 +21,7 @@ pub mod Isolation
 pub mod Histories
 pub mod Turned
 pub mod Exits
+pub mod Numbers
 pub mod Demands
 -- the paper's cases
 pub mod Bytes
