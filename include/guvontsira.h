@@ -6,7 +6,7 @@
  * nothing. Events are handed in as bytes, and each gets one answer number.
  *
  * Promised: every function ends, whatever the words and bytes; it writes only
- * what it was lent for writing; a refusal (1 to 99) changes no word.
+ * what it was lent for writing; a refusal (1 to 12) changes no word.
  *
  * Owed by the caller: each pointer is valid for the length that follows it
  * (a count of its type) and aligned for its type, also where that length is 0:

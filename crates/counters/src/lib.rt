@@ -1,4 +1,4 @@
-// Paper 01, "Events": what a verdict counts as, and whether its order takes a row.
+// What a verdict counts as, and whether its order takes a row.
 ghost use mathlib.Core.Bool.{cond};
 ghost use mathlib.Core.Path.{_≡_};
 ghost use Rattle.definitions.specs.Desks.{counted, countedUp, rejects, takesRow, warns};

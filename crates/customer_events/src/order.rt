@@ -12,6 +12,10 @@ use definitions::Answer;
 use definitions::Desk;
 use definitions::Order;
 use definitions::Verdict;
+use definitions::codes::DMA;
+use definitions::codes::FOREIGN_BOARD;
+use definitions::codes::MP;
+use definitions::codes::SELL;
 
 pub fn handle(words: &mut [u32], k: u32, o: Order) -> Answer
     requires { ⌜ stateFits (now words) ≡ true ⌝ }
@@ -49,7 +53,11 @@ pub fn handle(words: &mut [u32], k: u32, o: Order) -> Answer
 fn codes(o: Order) -> bool
     ensures { λ r. ⌜ r ≡ orderCodes o ⌝ }
 {
-    (1 < o.board) | (1 < o.side) | (3 < o.ordtype) | (2 < o.channel) | (o.number == 0)
+    (FOREIGN_BOARD < o.board)
+        | (SELL < o.side)
+        | (MP < o.ordtype)
+        | (DMA < o.channel)
+        | (o.number == 0)
 }
 
 // The rows are counted only where the order would take one.

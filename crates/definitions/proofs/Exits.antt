@@ -1,4 +1,4 @@
--- The exits of the gate, in the table's order: what the tests so far say, and what the answer and the words then are. Each exit of the code cites one.
+-- The exits of a kind's function, in the table's order: what the tests so far say, and what the answer and the words then are. Each exit cites one.
 -- Assumes nothing.
 use mathlib.Core.Bool.{Bool, true, false}
 use mathlib.Core.List.{List}

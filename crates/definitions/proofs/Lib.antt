@@ -1,12 +1,12 @@
 -- Demands.antt states the three demands as theorems: read it first. Cases.antt, Listing.antt and Corners.antt run the paper's cases on the definitions.
 
--- laws of the definitions, which other crates' proofs cite too
+-- laws of tests, lists and words, which other crates' proofs cite too
+pub mod Tests
 pub mod Lists
 pub mod Words
 pub mod Records
 pub mod State
 -- sound records stay sound
-pub mod Tests
 pub mod Rows
 pub mod SoundRow
 pub mod SoundDesk
@@ -19,9 +19,11 @@ pub mod WellFormed
 pub mod Fresh
 pub mod Isolation
 pub mod Histories
+-- refusals: the first condition met, the exits of a kind's function, and answers told from their numbers
 pub mod Turned
 pub mod Exits
 pub mod Numbers
+-- the three demands
 pub mod Demands
 -- the paper's cases
 pub mod Bytes

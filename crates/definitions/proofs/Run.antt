@@ -1,4 +1,4 @@
--- A history run on the definitions. To unfold `answersOf` is to unfold all of them, so that a case computes.
+-- A history run on the definitions. To unfold `answersOf` is to unfold all that a step needs, so that a case computes.
 use mathlib.Core.Bool.{true}
 use mathlib.Core.List.{List, [], _∷_}
 use Prim.Native.Nat.{ℕ}

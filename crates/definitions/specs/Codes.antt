@@ -11,8 +11,8 @@ preOpen = 1
 abbrev pub opened : ℕ
 opened = 2
 
-abbrev pub pause : ℕ
-pause = 3
+abbrev pub break : ℕ
+break = 3
 
 abbrev pub preClose : ℕ
 preClose = 4

@@ -4,11 +4,6 @@ use mathlib.Core.List.{List, [], _∷_}
 use Prim.Native.Nat.{ℕ, _+_, _-_, _*_}
 use lib.Dec.{ltb, eqb}
 use lib.ListN.{length, getD}
-use Rattle.definitions.specs.declared.Setup.{Setup}
-use Rattle.definitions.specs.declared.Prices.{Prices}
-use Rattle.definitions.specs.declared.Order.{Order}
-use Rattle.definitions.specs.declared.Cancel.{Cancel}
-use Rattle.definitions.specs.declared.Match.{Match}
 use Rattle.definitions.specs.declared.Event.{Event}
 use Rattle.definitions.specs.declared.Event.the-variants as event
 use Rattle.definitions.specs.declared.Reading.{Reading}

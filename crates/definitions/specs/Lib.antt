@@ -1,4 +1,4 @@
--- Paper 01 as definitions, in the paper's order.
+-- Paper 01 as definitions, each file after those that it names.
 pub mod Lists
 pub mod Codes
 pub mod State

@@ -10,7 +10,6 @@ use Rattle.definitions.specs.declared.Security.{Security}
 use Rattle.definitions.specs.declared.Row.{Row}
 use Rattle.definitions.specs.declared.Desk.{Desk}
 use Rattle.definitions.specs.declared.Setup.{Setup}
-use Rattle.definitions.specs.declared.Prices.{Prices}
 use Rattle.definitions.specs.declared.Order.{Order}
 use Rattle.definitions.specs.declared.Event.{Event}
 use Rattle.definitions.specs.declared.Event.the-variants as event

@@ -13,7 +13,7 @@ use Rattle.definitions.specs.declared.Desk.{Desk}
 use Rattle.definitions.specs.declared.Order.{Order}
 use Rattle.definitions.specs.declared.Verdict.{Verdict}
 use Rattle.definitions.specs.declared.Verdict.the-variants as verdict
-use Rattle.definitions.specs.Codes.{closed, preOpen, opened, pause, preClose, mainBoard, foreignBoard, buy, limit, ato, atc, mp, online, dma, mostVolume}
+use Rattle.definitions.specs.Codes.{closed, preOpen, opened, break, preClose, mainBoard, foreignBoard, buy, limit, ato, atc, mp, online, dma, mostVolume}
 use Rattle.definitions.specs.Desks.{isOpen, recent}
 use Rattle.definitions.specs.Lists.{any}
 
@@ -47,7 +47,7 @@ bestOpposite b side = cond (eqb side buy) (b .offer) (b .bid)
 unfoldable pub ruleS : ℕ → Security → Order → Bool
 ruleS session s o =
     eqb session closed
-    || eqb session pause
+    || eqb session break
     || eqb (o .ordtype) ato && not (eqb session preOpen)
     || eqb (o .ordtype) atc && not (eqb session preClose)
     || eqb (o .ordtype) mp && not (eqb session opened)

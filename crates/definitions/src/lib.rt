@@ -47,7 +47,7 @@ pub struct Desk {
     pub rows: [Row; 32],
 }
 
-// Paper 01, "Events": a struct for each kind. An order, a cancel and a match report stand beside the number of their customer,
+// Paper 01, "Events": a struct for each kind of more than one field. An order, a cancel and a match report stand beside the number of their customer,
 // so that what decides about an order is not given that number.
 pub struct Setup {
     pub security: u32,

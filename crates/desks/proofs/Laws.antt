@@ -1,6 +1,6 @@
 -- The laws of a desk: the loops over its rows, each stated once over what becomes of one row or what is asked of one, and an order that is counted and added.
 -- Assumes nothing.
-use mathlib.Core.Bool.{Bool, true, false, cond, _&&_, _||_, not}
+use mathlib.Core.Bool.{Bool, true, false, cond, _||_}
 use mathlib.Core.List.{List, [], _∷_, _++_, map, map-append, append-nil}
 use mathlib.Core.Path.{_≡_, refl, ap, sym, _∙_}
 use Prim.Native.Nat.{ℕ, zero, suc, _+_, _-_, _≤_, _<_}
@@ -16,6 +16,7 @@ use Rattle.definitions.specs.Lists.{bit, any, keep, count}
 use Rattle.definitions.specs.Sound.{marked}
 use Rattle.definitions.specs.Desks.{freeRow, closeUp, edited, withRows, addedLast, added, counted, takesRow, ordered}
 use Rattle.definitions.proofs.Lists.{take-next, any-next, any-end, count-next, count-end}
+use Rattle.definitions.proofs.Rows.{length-keep}
 
 module _ {A : Type 0} (p : A → Bool) where
   keep-append : (a b : List A) → keep p (a ++ b) ≡ keep p a ++ keep p b
@@ -27,15 +28,6 @@ module _ {A : Type 0} (p : A → Bool) where
           → cond t (x ∷ keep p (a ++ b)) (keep p (a ++ b)) ≡ cond t (x ∷ keep p a) (keep p a) ++ keep p b
       go true e = ap (λ l. x ∷ l) e
       go false e = e
-
-  length-keep : (a : List A) → length (keep p a) ≡ count p a
-  unfolding keep count
-  length-keep [] = refl
-  length-keep (x ∷ a) = go (p x) (length-keep a)
-    where
-      go : (t : Bool) → length (keep p a) ≡ count p a → length (cond t (x ∷ keep p a) (keep p a)) ≡ bit t + count p a
-      go true e = omega (arith, e)
-      go false e = omega (arith, e)
 
 count-free : (n : ℕ) → count marked (replicate n freeRow) ≡ 0
 unfolding count

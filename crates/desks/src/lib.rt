@@ -1,4 +1,4 @@
-// Paper 01, "Events" and "The lone run": how a desk changes, and what the refusals 9 to 12 ask of it.
+// Paper 01, "Events" and "The lone run": how a desk changes, and what conditions 9 to 12 ask of it.
 ghost use mathlib.Core.Path.{_≡_};
 ghost use lib.ListN.{replicate};
 ghost use Rattle.definitions.specs.Codes.{deskRows};

@@ -1,4 +1,4 @@
-// The number of an answer, as it is written to lent words and handed to C.
+// The number of an answer, as it is handed to C and written to the places for answers.
 ghost use mathlib.Core.Path.{_≡_};
 ghost use Rattle.definitions.specs.Answers.{answerNumber, verdictNumber};
 use definitions::Answer;

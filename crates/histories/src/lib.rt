@@ -1,5 +1,4 @@
 // A history, handed to the gate in one call: events in lent bytes, one after another or by their lengths.
-ghost use mathlib.Core.Path.{_≡_};
 ghost use Prim.Native.Nat.{_≤_};
 ghost use lib.ListN.{length, take};
 ghost use Rattle.definitions.specs.Walk.{split};

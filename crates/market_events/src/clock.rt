@@ -5,12 +5,13 @@ ghost use Rattle.definitions.specs.declared.Event.the-variants as event;
 ghost use Rattle.definitions.specs.State.{stateFits};
 ghost use Rattle.definitions.specs.Gate.{result, resultOf, stepEvent};
 use definitions::Answer;
+use definitions::codes::LAST_TIME;
 
 pub fn handle(words: &mut [u32], time: u32) -> Answer
     requires { ⌜ stateFits (now words) ≡ true ⌝ }
     ensures { λ r. ⌜ result r (now (words .exit)) ≡ resultOf (now (words .entry)) (stepEvent (now (words .entry)) (event.Clock time)) ⌝ }
 {
-    if 86_399_999 < time {
+    if LAST_TIME < time {
         return Answer::Refused(5);
     }
     if time < words[2] {

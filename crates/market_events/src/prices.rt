@@ -3,7 +3,6 @@ ghost use mathlib.Core.Bool.{true};
 ghost use mathlib.Core.Path.{_≡_};
 ghost use Rattle.definitions.specs.declared.Event.the-variants as event;
 ghost use Rattle.definitions.specs.State.{stateFits};
-ghost use Rattle.definitions.specs.Sound.{soundBoard};
 ghost use Rattle.definitions.specs.Gate.{result, resultOf, stepEvent, afterPrices, withBoards};
 use definitions::Answer;
 use definitions::Board;
@@ -19,7 +18,7 @@ pub fn handle(words: &mut [u32], x: Prices) -> Answer
     if h.securities <= x.security {
         return Answer::Refused(4);
     }
-    if 1 < x.board {
+    if FOREIGN_BOARD < x.board {
         return Answer::Refused(5);
     }
     let prices = x.prices;

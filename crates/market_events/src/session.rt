@@ -10,12 +10,13 @@ use crate::prices::with_boards;
 use definitions::Answer;
 use definitions::Board;
 use definitions::Security;
+use definitions::codes::PRE_CLOSE;
 
 pub fn handle(words: &mut [u32], s: u32) -> Answer
     requires { ⌜ stateFits (now words) ≡ true ⌝ }
     ensures { λ r. ⌜ result r (now (words .exit)) ≡ resultOf (now (words .entry)) (stepEvent (now (words .entry)) (event.Session s)) ⌝ }
 {
-    if 4 < s {
+    if PRE_CLOSE < s {
         return Answer::Refused(5);
     }
     if !soundness::all_sound(words) {

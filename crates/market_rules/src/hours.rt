@@ -5,10 +5,10 @@ use definitions::Order;
 use definitions::Security;
 use definitions::codes::ATC;
 use definitions::codes::ATO;
+use definitions::codes::BREAK;
 use definitions::codes::CLOSED;
 use definitions::codes::MP;
 use definitions::codes::OPENED;
-use definitions::codes::PAUSE;
 use definitions::codes::PRE_CLOSE;
 use definitions::codes::PRE_OPEN;
 use references::best_opposite;
@@ -19,7 +19,7 @@ pub fn rule_s(session: u32, s: Security, o: Order) -> bool
 {
     let best = best_opposite(board_named(s, o.board), o.side);
     (session == CLOSED)
-        | (session == PAUSE)
+        | (session == BREAK)
         | ((o.ordtype == ATO) & !(session == PRE_OPEN))
         | ((o.ordtype == ATC) & !(session == PRE_CLOSE))
         | ((o.ordtype == MP) & !(session == OPENED))

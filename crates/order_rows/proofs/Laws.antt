@@ -34,15 +34,15 @@ module _ (number : ℕ) (r : Row) where
     live-other clock = rw (ne-eqb (r .number) number h, and-false (live clock r))
 
 -- the definition asks for the mark twice
-expired-once : (t near : Bool) → (t && not near) ≡ (t && not (t && near))
-expired-once true near = refl
-expired-once false near = refl
+expired-once : (t recent : Bool) → (t && not recent) ≡ (t && not (t && recent))
+expired-once true recent = refl
+expired-once false recent = refl
 
-pub expired-is : (clock : ℕ) (r : Row) {near : Bool} → near ≡ leb clock (r .«cancel_time» + remembered) → (t : Bool)
-    → (eqb (r .mark) cancelledMark && not near) ≡ t → cond t freeRow r ≡ expiredRow clock r
-expired-is clock r {near} e t is =
+pub expired-is : (clock : ℕ) (r : Row) {recent : Bool} → recent ≡ leb clock (r .«cancel_time» + remembered) → (t : Bool)
+    → (eqb (r .mark) cancelledMark && not recent) ≡ t → cond t freeRow r ≡ expiredRow clock r
+expired-is clock r {recent} e t is =
     ap (λ b. cond b freeRow r)
-    (sym is ∙ expired-once (eqb (r .mark) cancelledMark) near ∙ ap (λ b. eqb (r .mark) cancelledMark && not (eqb (r .mark) cancelledMark && b)) e)
+    (sym is ∙ expired-once (eqb (r .mark) cancelledMark) recent ∙ ap (λ b. eqb (r .mark) cancelledMark && not (eqb (r .mark) cancelledMark && b)) e)
 
 module _ (number : ℕ) (r : Row) {named : Bool} (e : named ≡ openWith number r) where
   other : not named ≡ true → openWith number r ≡ false

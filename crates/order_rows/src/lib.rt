@@ -75,8 +75,8 @@ pub fn swept_row(r: Row) -> Row
 pub fn expired_row(clock: u32, r: Row) -> Row
     ensures { λ s. ⌜ s ≡ expiredRow clock r ⌝ }
 {
-    let near = within_minute(clock, r.cancel_time);
-    if (r.mark == CANCELLED_MARK) & !near {
+    let recent = within_minute(clock, r.cancel_time);
+    if (r.mark == CANCELLED_MARK) & !recent {
         return free_row();
     }
     r

@@ -1,15 +1,16 @@
 -- Laws of the records in the words, that the functions' proofs cite.
 -- Assumes nothing.
-use mathlib.Core.List.{List, [], _∷_, _++_, map, append-assoc, append-nil}
+use mathlib.Core.List.{List, [], _∷_, _++_, append-assoc, append-nil}
 use mathlib.Core.Path.{_≡_, refl, ap, sym, _∙_}
 use Prim.Native.Nat.{ℕ, zero, suc, _+_, _-_, _*_, _≤_, _<_}
 use native.Mathlib.Nat.{add-sub-cancel-left, add-zero, add-assoc, add-comm, mul-suc}
 use native.Mathlib.Numerals.{add-one}
 use native.Mathlib.Omega.{arith}
-use lib.ListN.{length, getD, take, drop, set, length-append, length-drop, length-set, length-map, take-append-drop}
-use lib.Seq.{paste, paste-suc, take-length, length-take-le, drop-drop, take-at, drop-at, take-suc-set, take-all}
+use lib.ListN.{length, getD, take, drop, set, length-append, length-set, take-append-drop}
+use lib.Seq.{length-take-le, drop-drop, take-at, drop-at, take-suc-set, take-all}
 use Rattle.definitions.proofs.Lists.{take-next}
 use Rattle.definitions.proofs.Words.{length-put}
+use Rattle.definitions.proofs.Records.{length-row, length-rows-words}
 use Rattle.definitions.specs.Lists.{part, put}
 use Rattle.definitions.specs.declared.Row.{Row}
 use Rattle.definitions.specs.declared.Desk.{Desk}
@@ -66,16 +67,7 @@ read-all w rows i h inv =
     let end : i ≡ 32 = omega (arith, inv .to) in
     sym (take-all 32 rows (omega (arith, inv .long))) ∙ rw end at (inv .first)
 
--- the words of a row, and of rows one after the other
-row-size : (r : Row) → length (rowWords r) ≡ 9
-unfolding rowWords
-row-size r = refl
-
-pub length-rows-words : (rows : List Row) → length (rowsWords rows) ≡ 9 * length rows
-unfolding rowsWords rowWords
-length-rows-words [] = refl
-length-rows-words (r ∷ rs) = rw (length-append (rowWords r) (rowsWords rs), length-rows-words rs) (omega arith)
-
+-- the words of rows one after the other
 rows-words-snoc : (rs : List Row) (r : Row) → rowsWords (rs ++ (r ∷ [])) ≡ rowsWords rs ++ rowWords r
 unfolding rowsWords
 rows-words-snoc [] r = append-nil (rowWords r)
@@ -101,7 +93,7 @@ written-next w₀ at rows w i d all room h inv =
       words =
           rw (inv .words, ← size) (put-put w₀ at done next (omega arith))
           ∙ ap (put w₀ at) (sym (ap rowsWords (take-next rows i d (omega arith)) ∙ rows-words-snoc (take i rows) (getD rows i d)));
-      long = length-put w (at + 9 * i) next (omega (arith, inv .long, row-size (getD rows i d))) ∙ inv .long;
+      long = length-put w (at + 9 * i) next (omega (arith, inv .long, length-row (getD rows i d))) ∙ inv .long;
       to = omega arith;
     }
 

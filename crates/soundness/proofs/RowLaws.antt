@@ -1,11 +1,10 @@
 -- Laws of a desk's rows as they are tested: the marked rows that stand first one by one, the rest as words.
 -- Assumes nothing.
-use mathlib.Core.Bool.{Bool, true, false, cond, _&&_, _||_, not, and-assoc, or-assoc, or-false, and-true, and-false, and-eq-true-iff, true≢false}
+use mathlib.Core.Bool.{Bool, true, false, cond, _&&_, _||_, not, and-assoc, or-false, and-true, and-false, and-eq-true-iff, true≢false}
 use mathlib.Core.List.{List, [], _∷_, _++_, map, map-append}
 use mathlib.Core.Path.{_≡_, refl, ap, sym, _∙_}
 use Prim.Native.Nat.{ℕ, zero, suc, _+_, _-_, _*_, _≤_, _<_}
 use native.Mathlib.Omega.{arith}
-use native.Mathlib.Nat.{add-suc}
 use native.Mathlib.Numerals.{add-one}
 use lib.Dec.{eqb}
 use lib.ListN.{length, getD, take, drop, set, drop-of-length-le, length-drop, length-set, take-append-drop}
@@ -18,6 +17,8 @@ use Rattle.definitions.specs.Gate.{soundDeskAt}
 use Rattle.definitions.specs.Sound.{marked, numbered, allZero, soundMarked, soundRow, markedFirst, numbersDiffer, soundDesk}
 use Rattle.definitions.proofs.Lists.{all-next, all-end}
 use Rattle.definitions.proofs.Words.{drop-take}
+use Rattle.definitions.proofs.Records.{length-rows}
+use Rattle.definitions.proofs.Rows.{any-append}
 use Rattle.soundness.specs.Tested.{equals, leading, apart, numberOf, soundLeading, soundRows}
 use Rattle.records.proofs.Laws.{rows-suc}
 
@@ -27,17 +28,7 @@ unfolding all
 all-join p [] ys = refl
 all-join p (x ∷ xs) ys = rw (all-join p xs ys) (sym (and-assoc (p x) (all p xs) (all p ys)))
 
-any-join : {A : Type 0} (p : A → Bool) (xs ys : List A) → any p (xs ++ ys) ≡ (any p xs || any p ys)
-unfolding any
-any-join p [] ys = refl
-any-join p (x ∷ xs) ys = rw (any-join p xs ys) (sym (or-assoc (p x) (any p xs) (any p ys)))
-
--- the rows of words: how many, the first ones, and those after them
-length-rows : (n : ℕ) (w : List ℕ) → length (rowsOf n w) ≡ n
-unfolding rowsOf
-length-rows zero w = refl
-length-rows (suc n) w = rw (length-rows n (drop 9 w))
-
+-- the rows of words: the first ones, and those after them
 rows-take : (i n : ℕ) (w : List ℕ) → i ≤ n → take i (rowsOf n w) ≡ rowsOf i w
 unfolding rowsOf
 rows-take zero n w h = refl
@@ -117,7 +108,7 @@ apart-last : (xs : List ℕ) (k : ℕ) → apart (xs ++ (k ∷ [])) ≡ (apart x
 unfolding apart any
 apart-last [] k = refl
 apart-last (x ∷ xs) k =
-    rw (any-join (equals x) xs (k ∷ []), apart-last xs k) (go (eqb x k) refl)
+    rw (any-append (equals x) xs (k ∷ []), apart-last xs k) (go (eqb x k) refl)
   where
     go : (e : Bool) → eqb x k ≡ e
         → (not (any (equals x) xs || (eqb k x || false)) && (apart xs && not (any (equals k) xs)))

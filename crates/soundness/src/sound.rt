@@ -4,10 +4,13 @@ ghost use Rattle.definitions.specs.Sound.{priceOrAbsent, soundBoard, soundSecur
 use definitions::Board;
 use definitions::Row;
 use definitions::Security;
+use definitions::codes::ATC;
 use definitions::codes::CANCELLED_MARK;
+use definitions::codes::FOREIGN_BOARD;
 use definitions::codes::LIMIT;
 use definitions::codes::MOST_VOLUME;
 use definitions::codes::OPEN_MARK;
+use definitions::codes::SELL;
 use ladder::Ladder;
 
 pub fn price_or_absent(p: u32) -> bool
@@ -58,9 +61,9 @@ pub fn sound_marked(securities: u32, clock: u32, r: Row) -> bool
     open_or_cancelled(clock, r)
         & (0 < r.number)
         & (r.security < securities)
-        & (r.board <= 1)
-        & (r.side <= 1)
-        & (r.ordtype <= 2)
+        & (r.board <= FOREIGN_BOARD)
+        & (r.side <= SELL)
+        & (r.ordtype <= ATC)
         & priced_as(r.ordtype, r.price)
         & (1 <= r.volume)
         & (r.volume <= MOST_VOLUME)

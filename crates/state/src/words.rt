@@ -5,6 +5,10 @@ ghost use lib.ListN.{length};
 ghost use Rattle.definitions.specs.Lists.{put};
 ghost use Rattle.definitions.specs.State.{securityPlace, deskPlace, headerOf, sizesFit, stateFits};
 use definitions::Header;
+use definitions::codes::LAST_TIME;
+use definitions::codes::MOST_CUSTOMERS;
+use definitions::codes::MOST_SECURITIES;
+use definitions::codes::PRE_CLOSE;
 
 // The places are 64 bits wide: no number of customers or securities that the words may hold makes the sum wrap.
 pub fn security_place(s: u32) -> usize
@@ -34,7 +38,10 @@ pub fn header_of(words: &[u32]) -> Header
 pub fn sizes_fit(customers: u32, securities: u32) -> bool
     ensures { λ r. ⌜ r ≡ sizesFit customers securities ⌝ }
 {
-    (1 <= customers) & (customers <= 256) & (1 <= securities) & (securities <= 1_024)
+    (1 <= customers)
+        & (customers <= MOST_CUSTOMERS)
+        & (1 <= securities)
+        & (securities <= MOST_SECURITIES)
 }
 
 pub fn state_fits(words: &[u32]) -> bool
@@ -47,8 +54,8 @@ pub fn state_fits(words: &[u32]) -> bool
     let h = header_of(words);
     sizes_fit(h.customers, h.securities)
         & (count == desk_place(h.securities, h.customers))
-        & (h.clock <= 86_399_999)
-        & (h.session <= 4)
+        & (h.clock <= LAST_TIME)
+        & (h.session <= PRE_CLOSE)
 }
 
 pub fn copy_in(dst: &mut [u32], at: usize, src: &[u32])
