@@ -60,12 +60,12 @@ fn codes(o: Order) -> bool
         | (o.number == 0)
 }
 
-// The rows are counted only where the order would take one.
+// The rows are asked only where the order would take one.
 fn full(v: Verdict, clock: u32, o: Order, d: Desk) -> bool
     ensures { λ r. ⌜ r ≡ (takesRow v o && eqb (count (live clock) (d .rows)) 32) ⌝ }
 {
     if !counters::takes_row(v, o) {
         return false;
     }
-    desks::live_rows(clock, d) == 32
+    desks::full(clock, d)
 }

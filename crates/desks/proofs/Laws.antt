@@ -5,7 +5,8 @@ use mathlib.Core.List.{List, [], _∷_, _++_, map, map-append, append-nil}
 use mathlib.Core.Path.{_≡_, refl, ap, sym, _∙_}
 use Prim.Native.Nat.{ℕ, zero, suc, _+_, _-_, _≤_, _<_}
 use native.Mathlib.Omega.{arith}
-use lib.ListN.{length, getD, take, drop, set, replicate, length-map, length-append, length-replicate}
+use lib.Dec.{eqb}
+use lib.ListN.{length, getD, take, drop, set, replicate, length-map, length-append, length-replicate, length-drop}
 use lib.Seq.{take-all, set-at, set-out, append-snoc}
 use borrow.Author.Tests.{eq-eqb, ne-eqb}
 use Rattle.definitions.specs.declared.Row.{Row}
@@ -16,7 +17,7 @@ use Rattle.definitions.specs.Lists.{bit, any, keep, count}
 use Rattle.definitions.specs.Sound.{marked}
 use Rattle.definitions.specs.Desks.{freeRow, closeUp, edited, withRows, addedLast, added, counted, takesRow, ordered}
 use Rattle.definitions.proofs.Lists.{take-next, any-next, any-end, count-next, count-end}
-use Rattle.definitions.proofs.Rows.{length-keep}
+use Rattle.definitions.proofs.Rows.{length-keep, count-le}
 
 module _ {A : Type 0} (p : A → Bool) where
   keep-append : (a b : List A) → keep p (a ++ b) ≡ keep p a ++ keep p b
@@ -153,29 +154,34 @@ module _ {p : Row → Bool} {d : Desk} where
     pub looking-end : 32 ≤ i → false ≡ any p (d .rows)
     looking-end h = sym (any-end p (d .rows) i (omega (arith, c .full))) ∙ c .left
 
--- A loop that counts the rows of d of a kind: n are among the first i.
-pub record Counting (p : Row → Bool) (d : Desk) (n i : ℕ) : Type 0 where
+-- A loop that asks whether all 32 rows of d are of a kind: the first i are.
+pub record Filling (p : Row → Bool) (d : Desk) (i : ℕ) : Type 0 where
   pub full : length (d .rows) ≡ 32
-  pub room : n ≤ i
-  pub left : n + count p (drop i (d .rows)) ≡ count p (d .rows)
+  pub left : i + count p (drop i (d .rows)) ≡ count p (d .rows)
 
 module _ {p : Row → Bool} {d : Desk} where
-  pub counting-start : length (d .rows) ≡ 32 → Counting p d 0 0
-  counting-start full = record { full = full; room = omega arith; left = omega arith }
+  pub filling-start : length (d .rows) ≡ 32 → Filling p d 0
+  filling-start full = record { full = full; left = omega arith }
 
-  module _ {n i : ℕ} (c : Counting p d n i) where
+  module _ {i : ℕ} (c : Filling p d i) where
     module _ (h : i < 32) (z : Row) {now : Bool} (e : now ≡ p (getD (d .rows) i z)) where
       ahead : (t : Bool) → now ≡ t → count p (drop i (d .rows)) ≡ bit t + count p (drop (i + 1) (d .rows))
       ahead t is = count-next p (d .rows) i z (omega (arith, c .full)) ∙ ap (λ b. bit b + count p (drop (i + 1) (d .rows))) (sym e ∙ is)
 
-      pub counting-more : now ≡ true → Counting p d (n + 1) (i + 1)
-      counting-more is = record { full = c .full; room = omega (arith, c .room); left = omega (arith, ahead true is, c .left) }
+      pub filling-next : now ≡ true → Filling p d (i + 1)
+      filling-next is = record { full = c .full; left = omega (arith, ahead true is, c .left) }
 
-      pub counting-same : now ≡ false → Counting p d n (i + 1)
-      counting-same is = record { full = c .full; room = omega (arith, c .room); left = omega (arith, ahead false is, c .left) }
+      pub filling-other : now ≡ false → false ≡ eqb (count p (d .rows)) 32
+      filling-other is =
+          let most = count-le p (drop (i + 1) (d .rows)) in
+          let size = length-drop (i + 1) (d .rows) in
+          sym (ne-eqb (count p (d .rows)) 32 (λ all. omega (arith, ahead false is, c .left, c .full)))
 
-    pub counting-end : 32 ≤ i → n ≡ count p (d .rows)
-    counting-end h = omega (arith, count-end p (d .rows) i (omega (arith, c .full)), c .left)
+    pub filling-end : 32 ≤ i → true ≡ eqb (count p (d .rows)) 32
+    filling-end h =
+        let most = count-le p (d .rows) in
+        let none = count-end p (d .rows) i (omega (arith, c .full)) in
+        sym (eq-eqb (count p (d .rows)) 32 (omega (arith, c .left, c .full)))
 
 -- The counters and the rows are different fields: the desk may be counted before the order is added.
 module _ (v : Verdict) (clock : ℕ) (o : Order) (d : Desk) where

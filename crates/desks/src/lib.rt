@@ -1,5 +1,6 @@
 // Paper 01, "Events" and "The lone run": how a desk changes, and what conditions 9 to 12 ask of it.
 ghost use mathlib.Core.Path.{_≡_};
+ghost use lib.Dec.{eqb};
 ghost use lib.ListN.{replicate};
 ghost use Rattle.definitions.specs.Codes.{deskRows};
 ghost use Rattle.definitions.specs.Desks.{added, cancelled, freeRow, live, matched, openWith, ordered, swept};
@@ -129,20 +130,18 @@ pub fn volume_short(number: u32, volume: u32, d: Desk) -> bool
     false
 }
 
-// 12: "open rows and rows cancelled at most 60,000 ms ago"
-pub fn live_rows(clock: u32, d: Desk) -> u32
-    ensures { λ r. ⌜ r ≡ count (live clock) (d .rows) ⌝ }
+// 12: "open rows and rows cancelled at most 60,000 ms ago are 32". The first row that is neither ends the loop, since only a desk with no such row is full.
+pub fn full(clock: u32, d: Desk) -> bool
+    ensures { λ r. ⌜ r ≡ eqb (count (live clock) (d .rows)) deskRows ⌝ }
 {
-    let mut n: u32 = 0;
     let mut i: usize = 0;
     while i < DESK_ROWS {
-        let counts = is_live(clock, d.rows[i]);
-        i += 1;
-        if counts {
-            n += 1;
+        if !is_live(clock, d.rows[i]) {
+            return false;
         }
+        i += 1;
     }
-    n
+    true
 }
 
 // The desk that rows are put on one after the other, so that they close up.

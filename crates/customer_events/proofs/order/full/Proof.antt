@@ -1,8 +1,7 @@
--- `customer_events::order::full` meets its contract: an order that takes no row fills no desk; of another the live rows are counted.
+-- `customer_events::order::full` meets its contract: an order that takes no row fills no desk; of another the desk is asked.
 -- Assumes nothing.
 use mathlib.Core.Bool.{Bool, _&&_}
 use mathlib.Core.Path.{ap, sym, _∙_}
-use Prim.Native.Nat.{ℕ}
 use lib.Dec.{eqb}
 use borrow.Author.Needs.{needs}
 use borrow.Author.Tests.{not-true, not-false}
@@ -19,14 +18,14 @@ returns c =
     let s = c .before .before in
     sym (ap (λ (t : Bool). t && eqb (count (live (s .args .clock)) (s .args .d .rows)) 32) (sym (c .before .takes-row .ensures) ∙ not-true _ (c .if1 .taken)))
 
-live-rows-requires : tie.Need-live-rows-requires
-live-rows-requires c κs = search needs
+full-requires : tie.Need-full-requires
+full-requires c κs = search needs
 
 returns-2 : tie.Need-returns-2
 returns-2 c =
     let s = c .before .before .before in
-    ap (λ (n : ℕ). eqb n 32) (c .live-rows .ensures)
+    c .full .ensures
     ∙ sym (ap (λ (t : Bool). t && eqb (count (live (s .args .clock)) (s .args .d .rows)) 32) (sym (c .before .before .takes-row .ensures) ∙ not-false _ (c .before .if1 .left)))
 
 pub full-spec : {M : Type 1} → statement M
-full-spec = tie.close (tie.spec takes-row-requires returns live-rows-requires returns-2)
+full-spec = tie.close (tie.spec takes-row-requires returns full-requires returns-2)
