@@ -18,10 +18,11 @@ use Rattle.definitions.specs.declared.Answer.the-variants as answer
 use Rattle.definitions.specs.Lists.{any, count}
 use Rattle.definitions.specs.State.{headerOf, securityAt, deskAt, putDesk}
 use Rattle.definitions.specs.Sound.{soundSecurity}
-use Rattle.definitions.specs.Desks.{live, openWith, takesRow, ordered, cancelled, matched}
+use Rattle.definitions.specs.Desks.{live, openWith, takesRow, counted, ordered, cancelled, matched}
 use Rattle.definitions.specs.Rules.{verdictOf}
 use Rattle.definitions.specs.Refusals.{liveWith, openBelow, numberTaken, noOpenRow, matchVolume, deskFull}
 use Rattle.definitions.specs.Gate.{result, resultOf, viewOf, soundDeskAt, unsound, perform}
+use Rattle.desks.proofs.Laws.{ordered-counted}
 
 module _ (w : List ℕ) where
   module _ (k : ℕ) (o : Order) {h : Header} {s : Security} {d : Desk} (eh : h ≡ headerOf w) (es : s ≡ securityAt w (o .security)) (ed : d ≡ deskAt w k) where
@@ -33,7 +34,7 @@ module _ (w : List ℕ) where
       order-verdict : v ≡ verdictOf (headerOf w .session) (headerOf w .clock) (securityAt w (o .security)) (deskAt w k) o
       order-verdict = ev ∙ ap₂ (λ (x : Header) (y : Security). verdictOf (x .session) (x .clock) y d o) eh es ∙ ap (λ (y : Desk). verdictOf (headerOf w .session) (headerOf w .clock) (securityAt w (o .security)) y o) ed
 
-      pub order-full : {t : Bool} (b : Bool) → t ≡ (takesRow v o && eqb (count (live (h .clock)) (d .rows)) 32) → t ≡ b → deskFull (viewOf w (event.Order k o)) (event.Order k o) ≡ b
+      order-full : {t : Bool} (b : Bool) → t ≡ (takesRow v o && eqb (count (live (h .clock)) (d .rows)) 32) → t ≡ b → deskFull (viewOf w (event.Order k o)) (event.Order k o) ≡ b
       unfolding deskFull viewOf
       order-full b et e =
           sym
@@ -42,6 +43,12 @@ module _ (w : List ℕ) where
           ∙ sym et
           ∙ e
 
+      pub order-no-row : takesRow v o ≡ false → deskFull (viewOf w (event.Order k o)) (event.Order k o) ≡ false
+      order-no-row none = order-full false (sym (ap (λ (x : Bool). x && eqb (count (live (h .clock)) (d .rows)) 32) none)) refl
+
+      pub order-row : {t : Bool} (b : Bool) → takesRow v o ≡ true → t ≡ eqb (count (live (h .clock)) (d .rows)) 32 → t ≡ b → deskFull (viewOf w (event.Order k o)) (event.Order k o) ≡ b
+      order-row b takes et e = order-full b (et ∙ sym (ap (λ (x : Bool). x && eqb (count (live (h .clock)) (d .rows)) 32) takes)) e
+
       pub order-done : {x : Desk} {after : List ℕ} → x ≡ ordered v (h .clock) o d → after ≡ putDesk w k x → result (answer.Verdict v) after ≡ resultOf w (perform w (event.Order k o))
       unfolding perform
       order-done ex ew =
@@ -49,6 +56,9 @@ module _ (w : List ℕ) where
           ∙ ap (λ (y : Desk). result (answer.Verdict v) (putDesk w k y)) ex
           ∙ ap (λ (y : Verdict). result (answer.Verdict y) (putDesk w k (ordered y (h .clock) o d))) order-verdict
           ∙ ap₂ (λ (x : Header) (y : Desk). result (answer.Verdict (verdictOf (headerOf w .session) (headerOf w .clock) (securityAt w (o .security)) (deskAt w k) o)) (putDesk w k (ordered (verdictOf (headerOf w .session) (headerOf w .clock) (securityAt w (o .security)) (deskAt w k) o) (x .clock) o y))) eh ed
+
+      pub order-counted : takesRow v o ≡ false → {x : Desk} {after : List ℕ} → x ≡ counted v d → after ≡ putDesk w k x → result (answer.Verdict v) after ≡ resultOf w (perform w (event.Order k o))
+      order-counted none ex ew = order-done (ex ∙ ordered-counted v (h .clock) o d none) ew
 
   module _ (k : ℕ) (o : Order) {s : Security} (es : s ≡ securityAt w (o .security)) where
     order-sound : (a b t : Bool) → a ≡ soundSecurity s → b ≡ soundDeskAt w k → not (a && b) ≡ t → unsound w (event.Order k o) ≡ t

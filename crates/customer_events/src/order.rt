@@ -1,17 +1,12 @@
 // Kind 5.
-ghost use mathlib.Core.Bool.{true, _&&_};
+ghost use mathlib.Core.Bool.{true};
 ghost use mathlib.Core.Path.{_≡_};
 ghost use Rattle.definitions.specs.declared.Event.the-variants as event;
 ghost use Rattle.definitions.specs.State.{stateFits};
-ghost use lib.Dec.{eqb};
-ghost use Rattle.definitions.specs.Lists.{count};
-ghost use Rattle.definitions.specs.Desks.{live, takesRow};
 ghost use Rattle.definitions.specs.Refusals.{orderCodes};
 ghost use Rattle.definitions.specs.Gate.{result, resultOf, stepEvent};
 use definitions::Answer;
-use definitions::Desk;
 use definitions::Order;
-use definitions::Verdict;
 use definitions::codes::DMA;
 use definitions::codes::FOREIGN_BOARD;
 use definitions::codes::MP;
@@ -43,7 +38,11 @@ pub fn handle(words: &mut [u32], k: u32, o: Order) -> Answer
         return Answer::Refused(9);
     }
     let v = rules::verdict(h.session, h.clock, s, d, o);
-    if full(v, h.clock, o, d) {
+    if !counters::takes_row(v, o) {
+        records::put_desk(words, k, counters::counted(v, d));
+        return Answer::Verdict(v);
+    }
+    if desks::full(h.clock, d) {
         return Answer::Refused(12);
     }
     records::put_desk(words, k, desks::ordered(v, h.clock, o, d));
@@ -58,14 +57,4 @@ fn codes(o: Order) -> bool
         | (MP < o.ordtype)
         | (DMA < o.channel)
         | (o.number == 0)
-}
-
-// The rows are asked only where the order would take one.
-fn full(v: Verdict, clock: u32, o: Order, d: Desk) -> bool
-    ensures { λ r. ⌜ r ≡ (takesRow v o && eqb (count (live clock) (d .rows)) 32) ⌝ }
-{
-    if !counters::takes_row(v, o) {
-        return false;
-    }
-    desks::full(clock, d)
 }

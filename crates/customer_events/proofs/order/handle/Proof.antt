@@ -188,34 +188,22 @@ enough c = refl
 verdict-requires : tie.Need-verdict-requires
 verdict-requires c κs = search needs
 
-full-requires : tie.Need-full-requires
-full-requires c κs = search needs
+takes-row-requires : tie.Need-takes-row-requires
+takes-row-requires c κs = search needs
 
-same-length-7 : tie.Need-same-length-7
-same-length-7 c = search needs
-
-returns-7 : tie.Need-returns-7
-returns-7 c =
-    let c6 = c .before .before .before in
-    let c5 = else5 c6 in
-    let c4 = else4 c5 in
-    let c3 = else3 c4 in
-    exits.refused-12 (w (start3 c3)) (e (start3 c3)) (named (else1 (else2 c3))) (coded (else2 c3)) (priced c3) (on-time (start3 c3)) (sound c5) (unused c6) (there (start3 c3)) (enough (start3 c3))
-    (seen.order-full (w (start3 c3)) (start3 c3 .args .k) (start3 c3 .args .o) (else1 (else2 c3) .before .before .before .before .header-of .ensures) (c4 .before .before .security-at .ensures) (c6 .before .before .desk-at .ensures) (c .before .before .verdict .ensures) true (c .before .full .ensures) (c .if7 .taken))
-
-ordered-requires : tie.Need-ordered-requires
-ordered-requires c κs = search needs
+counted-requires : tie.Need-counted-requires
+counted-requires c κs = search needs
 
 put-desk-requires : tie.Need-put-desk-requires
 put-desk-requires c κs =
     let c3 = else3 (else4 (else5 (c .before .before .before .before .before))) in
     fits-desk (w (start3 c3)) (start3 c3 .pre) _ (below (else1 (else2 c3)) .0)
 
-same-length-8 : tie.Need-same-length-8
-same-length-8 c = search needs
+same-length-7 : tie.Need-same-length-7
+same-length-7 c = search needs
 
-returns-8 : tie.Need-returns-8
-returns-8 c =
+returns-7 : tie.Need-returns-7
+returns-7 c =
     let c7 = c .before .before .before .before .before in
     let c6 = c7 .before .before .before in
     let c5 = else5 c6 in
@@ -225,9 +213,55 @@ returns-8 c =
     let es = c4 .before .before .security-at .ensures in
     let ed = c6 .before .before .desk-at .ensures in
     let ev = c7 .before .before .verdict .ensures in
-    seen.order-done (w (start3 c3)) (start3 c3 .args .k) (start3 c3 .args .o) eh es ed ev (c .before .before .before .ordered .ensures) (c .before .before .put-desk .ensures)
+    let none = sym (c7 .before .takes-row .ensures) ∙ not-true _ (c7 .if7 .taken) in
+    seen.order-counted (w (start3 c3)) (start3 c3 .args .k) (start3 c3 .args .o) eh es ed ev none (c .before .before .before .counted .ensures) (c .before .before .put-desk .ensures)
     ∙ exits.performed (w (start3 c3)) (e (start3 c3)) (named (else1 (else2 c3))) (coded (else2 c3)) (priced c3) (on-time (start3 c3)) (sound c5) (unused c6) (there (start3 c3)) (enough (start3 c3))
-    (seen.order-full (w (start3 c3)) (start3 c3 .args .k) (start3 c3 .args .o) eh es ed ev false (c7 .before .full .ensures) (c7 .if7 .left))
+    (seen.order-no-row (w (start3 c3)) (start3 c3 .args .k) (start3 c3 .args .o) eh es ed ev none)
+
+full-requires : tie.Need-full-requires
+full-requires c κs = search needs
+
+same-length-8 : tie.Need-same-length-8
+same-length-8 c = search needs
+
+returns-8 : tie.Need-returns-8
+returns-8 c =
+    let c7 = c .before .before in
+    let c6 = c7 .before .before .before in
+    let c5 = else5 c6 in
+    let c4 = else4 c5 in
+    let c3 = else3 c4 in
+    let takes = sym (c7 .before .takes-row .ensures) ∙ not-false _ (c7 .if7 .left) in
+    exits.refused-12 (w (start3 c3)) (e (start3 c3)) (named (else1 (else2 c3))) (coded (else2 c3)) (priced c3) (on-time (start3 c3)) (sound c5) (unused c6) (there (start3 c3)) (enough (start3 c3))
+    (seen.order-row (w (start3 c3)) (start3 c3 .args .k) (start3 c3 .args .o) (else1 (else2 c3) .before .before .before .before .header-of .ensures) (c4 .before .before .security-at .ensures) (c6 .before .before .desk-at .ensures) (c7 .before .before .verdict .ensures) true takes (c .before .full .ensures) (c .if8 .taken))
+
+ordered-requires : tie.Need-ordered-requires
+ordered-requires c κs = search needs
+
+put-desk-requires-2 : tie.Need-put-desk-requires-2
+put-desk-requires-2 c κs =
+    let c3 = else3 (else4 (else5 (c .before .before .before .before .before .before .before))) in
+    fits-desk (w (start3 c3)) (start3 c3 .pre) _ (below (else1 (else2 c3)) .0)
+
+same-length-9 : tie.Need-same-length-9
+same-length-9 c = search needs
+
+returns-9 : tie.Need-returns-9
+returns-9 c =
+    let c8 = c .before .before .before .before .before in
+    let c7 = c8 .before .before in
+    let c6 = c7 .before .before .before in
+    let c5 = else5 c6 in
+    let c4 = else4 c5 in
+    let c3 = else3 c4 in
+    let eh = else1 (else2 c3) .before .before .before .before .header-of .ensures in
+    let es = c4 .before .before .security-at .ensures in
+    let ed = c6 .before .before .desk-at .ensures in
+    let ev = c7 .before .before .verdict .ensures in
+    let takes = sym (c7 .before .takes-row .ensures) ∙ not-false _ (c7 .if7 .left) in
+    seen.order-done (w (start3 c3)) (start3 c3 .args .k) (start3 c3 .args .o) eh es ed ev (c .before .before .before .ordered .ensures) (c .before .before .put-desk2 .ensures)
+    ∙ exits.performed (w (start3 c3)) (e (start3 c3)) (named (else1 (else2 c3))) (coded (else2 c3)) (priced c3) (on-time (start3 c3)) (sound c5) (unused c6) (there (start3 c3)) (enough (start3 c3))
+    (seen.order-row (w (start3 c3)) (start3 c3 .args .k) (start3 c3 .args .o) eh es ed ev false takes (c8 .before .full .ensures) (c8 .if8 .left))
 
 pub handle-spec : {M : Type 1} → statement M
 handle-spec =
@@ -254,10 +288,15 @@ handle-spec =
     same-length-6
     returns-6
     verdict-requires
-    full-requires
+    takes-row-requires
+    counted-requires
+    put-desk-requires
     same-length-7
     returns-7
-    ordered-requires
-    put-desk-requires
+    full-requires
     same-length-8
-    returns-8)
+    returns-8
+    ordered-requires
+    put-desk-requires-2
+    same-length-9
+    returns-9)
