@@ -18,11 +18,20 @@ use Rattle.definitions.specs.declared.Answer.the-variants as answer
 use Rattle.definitions.specs.Lists.{any, count}
 use Rattle.definitions.specs.State.{headerOf, securityAt, deskAt, putDesk}
 use Rattle.definitions.specs.Sound.{soundSecurity}
-use Rattle.definitions.specs.Desks.{live, openWith, takesRow, counted, ordered, cancelled, matched}
+use Rattle.definitions.specs.Desks.{live, openWith, takesRow, counted, added, ordered, cancelled, matched}
 use Rattle.definitions.specs.Rules.{verdictOf}
 use Rattle.definitions.specs.Refusals.{liveWith, openBelow, numberTaken, noOpenRow, matchVolume, deskFull}
 use Rattle.definitions.specs.Gate.{result, resultOf, viewOf, soundDeskAt, unsound, perform}
-use Rattle.desks.proofs.Laws.{ordered-counted}
+
+-- the counters and the rows are different fields: the desk may be counted before the order is added
+module _ (v : Verdict) (clock : ℕ) (o : Order) (d : Desk) where
+  ordered-added : takesRow v o ≡ true → added clock o (counted v d) ≡ ordered v clock o d
+  unfolding ordered counted added
+  ordered-added t = rw t
+
+  ordered-counted : takesRow v o ≡ false → counted v d ≡ ordered v clock o d
+  unfolding ordered
+  ordered-counted t = rw t
 
 module _ (w : List ℕ) where
   module _ (k : ℕ) (o : Order) {h : Header} {s : Security} {d : Desk} (eh : h ≡ headerOf w) (es : s ≡ securityAt w (o .security)) (ed : d ≡ deskAt w k) where
@@ -49,7 +58,7 @@ module _ (w : List ℕ) where
       pub order-row : {t : Bool} (b : Bool) → takesRow v o ≡ true → t ≡ eqb (count (live (h .clock)) (d .rows)) 32 → t ≡ b → deskFull (viewOf w (event.Order k o)) (event.Order k o) ≡ b
       order-row b takes et e = order-full b (et ∙ sym (ap (λ (x : Bool). x && eqb (count (live (h .clock)) (d .rows)) 32) takes)) e
 
-      pub order-done : {x : Desk} {after : List ℕ} → x ≡ ordered v (h .clock) o d → after ≡ putDesk w k x → result (answer.Verdict v) after ≡ resultOf w (perform w (event.Order k o))
+      order-done : {x : Desk} {after : List ℕ} → x ≡ ordered v (h .clock) o d → after ≡ putDesk w k x → result (answer.Verdict v) after ≡ resultOf w (perform w (event.Order k o))
       unfolding perform
       order-done ex ew =
           ap (result (answer.Verdict v)) ew
@@ -59,6 +68,9 @@ module _ (w : List ℕ) where
 
       pub order-counted : takesRow v o ≡ false → {x : Desk} {after : List ℕ} → x ≡ counted v d → after ≡ putDesk w k x → result (answer.Verdict v) after ≡ resultOf w (perform w (event.Order k o))
       order-counted none ex ew = order-done (ex ∙ ordered-counted v (h .clock) o d none) ew
+
+      pub order-added : takesRow v o ≡ true → {y x : Desk} {after : List ℕ} → y ≡ counted v d → x ≡ added (h .clock) o y → after ≡ putDesk w k x → result (answer.Verdict v) after ≡ resultOf w (perform w (event.Order k o))
+      order-added takes ey ex ew = order-done (ex ∙ ap (added (h .clock) o) ey ∙ ordered-added v (h .clock) o d takes) ew
 
   module _ (k : ℕ) (o : Order) {s : Security} (es : s ≡ securityAt w (o .security)) where
     order-sound : (a b t : Bool) → a ≡ soundSecurity s → b ≡ soundDeskAt w k → not (a && b) ≡ t → unsound w (event.Order k o) ≡ t

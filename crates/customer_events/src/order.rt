@@ -45,7 +45,7 @@ pub fn handle(words: &mut [u32], k: u32, o: Order) -> Answer
     if desks::full(h.clock, d) {
         return Answer::Refused(12);
     }
-    records::put_desk(words, k, desks::ordered(v, h.clock, o, d));
+    records::put_desk(words, k, desks::added(h.clock, o, counters::counted(v, d)));
     Answer::Verdict(v)
 }
 

@@ -1,4 +1,4 @@
--- The laws of a desk: the loops over its rows, each stated once over what becomes of one row or what is asked of one, and an order that is counted and added.
+-- The laws of a desk: the loops over its rows, each stated once over what becomes of one row or what is asked of one.
 -- Assumes nothing.
 use mathlib.Core.Bool.{Bool, true, false, cond, _||_}
 use mathlib.Core.List.{List, [], _∷_, _++_, map, map-append, append-nil}
@@ -11,11 +11,9 @@ use lib.Seq.{take-all, set-at, set-out, append-snoc}
 use borrow.Author.Tests.{eq-eqb, ne-eqb}
 use Rattle.definitions.specs.declared.Row.{Row}
 use Rattle.definitions.specs.declared.Desk.{Desk}
-use Rattle.definitions.specs.declared.Order.{Order}
-use Rattle.definitions.specs.declared.Verdict.{Verdict}
 use Rattle.definitions.specs.Lists.{bit, any, keep, count}
 use Rattle.definitions.specs.Sound.{marked}
-use Rattle.definitions.specs.Desks.{freeRow, closeUp, edited, withRows, addedLast, added, counted, takesRow, ordered}
+use Rattle.definitions.specs.Desks.{freeRow, closeUp, edited, withRows, addedLast}
 use Rattle.definitions.proofs.Lists.{take-next, any-next, any-end, count-next, count-end}
 use Rattle.definitions.proofs.Rows.{length-keep, count-le}
 
@@ -182,13 +180,3 @@ module _ {p : Row → Bool} {d : Desk} where
         let most = count-le p (d .rows) in
         let none = count-end p (d .rows) i (omega (arith, c .full)) in
         sym (eq-eqb (count p (d .rows)) 32 (omega (arith, c .left, c .full)))
-
--- The counters and the rows are different fields: the desk may be counted before the order is added.
-module _ (v : Verdict) (clock : ℕ) (o : Order) (d : Desk) where
-  pub ordered-added : takesRow v o ≡ true → added clock o (counted v d) ≡ ordered v clock o d
-  unfolding ordered counted added
-  ordered-added t = rw t
-
-  pub ordered-counted : takesRow v o ≡ false → counted v d ≡ ordered v clock o d
-  unfolding ordered
-  ordered-counted t = rw t

@@ -3,14 +3,11 @@ ghost use mathlib.Core.Path.{_≡_};
 ghost use lib.Dec.{eqb};
 ghost use lib.ListN.{replicate};
 ghost use Rattle.definitions.specs.Codes.{deskRows};
-ghost use Rattle.definitions.specs.Desks.{added, cancelled, freeRow, live, matched, openWith, ordered, swept};
+ghost use Rattle.definitions.specs.Desks.{added, cancelled, freeRow, live, matched, openWith, swept};
 ghost use Rattle.definitions.specs.Refusals.{liveWith, openBelow};
 ghost use Rattle.definitions.specs.Lists.{any, count};
-use counters::counted;
-use counters::takes_row;
 use definitions::Desk;
 use definitions::Order;
-use definitions::Verdict;
 use definitions::codes::DESK_ROWS;
 use order_rows::cancelled_row;
 use order_rows::expired_row;
@@ -77,15 +74,28 @@ pub fn matched(number: u32, volume: u32, d: Desk) -> Desk
     closed
 }
 
-// The counters rise first: the two changes are of different fields, and the desk is copied once less.
-pub fn ordered(v: Verdict, clock: u32, o: Order, d: Desk) -> Desk
-    ensures { λ r. ⌜ r ≡ ordered v clock o d ⌝ }
+// "rows cancelled more than 60,000 ms ago go, then the order stands last as an open row"
+pub fn added(clock: u32, o: Order, d: Desk) -> Desk
+    ensures { λ r. ⌜ r ≡ added clock o d ⌝ }
 {
-    let after = counted(v, d);
-    if takes_row(v, o) {
-        return added(clock, o, after);
+    let last = row_of_order(o);
+    let mut closed = emptied(d.accepted, d.warned, d.rejected);
+    let mut n: usize = 0;
+    let mut i: usize = 0;
+    while i < DESK_ROWS {
+        let row = expired_row(clock, d.rows[i]);
+        i += 1;
+        if row.mark != 0 {
+            closed.rows[n] = row;
+            n += 1;
+        }
     }
-    after
+    // Refusal 12 keeps an order from a full desk, which would stay as it is.
+    let place = n;
+    if place < DESK_ROWS {
+        closed.rows[place] = last;
+    }
+    closed
 }
 
 // 9: "order number equal to that of an open row or a row cancelled at most 60,000 ms ago"
@@ -156,28 +166,4 @@ fn emptied(accepted: u32, warned: u32, rejected: u32) -> Desk
         rejected: rejected,
         rows: rows,
     }
-}
-
-// "rows cancelled more than 60,000 ms ago go, then the order stands last as an open row"
-fn added(clock: u32, o: Order, d: Desk) -> Desk
-    ensures { λ r. ⌜ r ≡ added clock o d ⌝ }
-{
-    let last = row_of_order(o);
-    let mut closed = emptied(d.accepted, d.warned, d.rejected);
-    let mut n: usize = 0;
-    let mut i: usize = 0;
-    while i < DESK_ROWS {
-        let row = expired_row(clock, d.rows[i]);
-        i += 1;
-        if row.mark != 0 {
-            closed.rows[n] = row;
-            n += 1;
-        }
-    }
-    // Refusal 12 keeps an order from a full desk, which would stay as it is.
-    let place = n;
-    if place < DESK_ROWS {
-        closed.rows[place] = last;
-    }
-    closed
 }

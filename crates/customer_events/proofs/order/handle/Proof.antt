@@ -235,12 +235,15 @@ returns-8 c =
     exits.refused-12 (w (start3 c3)) (e (start3 c3)) (named (else1 (else2 c3))) (coded (else2 c3)) (priced c3) (on-time (start3 c3)) (sound c5) (unused c6) (there (start3 c3)) (enough (start3 c3))
     (seen.order-row (w (start3 c3)) (start3 c3 .args .k) (start3 c3 .args .o) (else1 (else2 c3) .before .before .before .before .header-of .ensures) (c4 .before .before .security-at .ensures) (c6 .before .before .desk-at .ensures) (c7 .before .before .verdict .ensures) true takes (c .before .full .ensures) (c .if8 .taken))
 
-ordered-requires : tie.Need-ordered-requires
-ordered-requires c κs = search needs
+counted-requires-2 : tie.Need-counted-requires-2
+counted-requires-2 c κs = search needs
+
+added-requires : tie.Need-added-requires
+added-requires c κs = search needs
 
 put-desk-requires-2 : tie.Need-put-desk-requires-2
 put-desk-requires-2 c κs =
-    let c3 = else3 (else4 (else5 (c .before .before .before .before .before .before .before))) in
+    let c3 = else3 (else4 (else5 (c .before .before .before .before .before .before .before .before))) in
     fits-desk (w (start3 c3)) (start3 c3 .pre) _ (below (else1 (else2 c3)) .0)
 
 same-length-9 : tie.Need-same-length-9
@@ -248,7 +251,7 @@ same-length-9 c = search needs
 
 returns-9 : tie.Need-returns-9
 returns-9 c =
-    let c8 = c .before .before .before .before .before in
+    let c8 = c .before .before .before .before .before .before in
     let c7 = c8 .before .before in
     let c6 = c7 .before .before .before in
     let c5 = else5 c6 in
@@ -259,7 +262,7 @@ returns-9 c =
     let ed = c6 .before .before .desk-at .ensures in
     let ev = c7 .before .before .verdict .ensures in
     let takes = sym (c7 .before .takes-row .ensures) ∙ not-false _ (c7 .if7 .left) in
-    seen.order-done (w (start3 c3)) (start3 c3 .args .k) (start3 c3 .args .o) eh es ed ev (c .before .before .before .ordered .ensures) (c .before .before .put-desk2 .ensures)
+    seen.order-added (w (start3 c3)) (start3 c3 .args .k) (start3 c3 .args .o) eh es ed ev takes (c .before .before .before .before .counted2 .ensures) (c .before .before .before .added .ensures) (c .before .before .put-desk2 .ensures)
     ∙ exits.performed (w (start3 c3)) (e (start3 c3)) (named (else1 (else2 c3))) (coded (else2 c3)) (priced c3) (on-time (start3 c3)) (sound c5) (unused c6) (there (start3 c3)) (enough (start3 c3))
     (seen.order-row (w (start3 c3)) (start3 c3 .args .k) (start3 c3 .args .o) eh es ed ev false takes (c8 .before .full .ensures) (c8 .if8 .left))
 
@@ -296,7 +299,8 @@ handle-spec =
     full-requires
     same-length-8
     returns-8
-    ordered-requires
+    counted-requires-2
+    added-requires
     put-desk-requires-2
     same-length-9
     returns-9)
