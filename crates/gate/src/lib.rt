@@ -47,13 +47,13 @@ fn apply(words: &mut [u32], event: Event) -> Answer
     ensures { λ r. ⌜ result r (now (words .exit)) ≡ resultOf (now (words .entry)) (stepEvent (now (words .entry)) event) ⌝ }
 {
     match event {
-        Event::Clock(time) => market_events::clock::handle(words, time),
-        Event::Session(s) => market_events::session::handle(words, s),
-        Event::Setup(x) => market_events::setup::handle(words, x),
-        Event::Prices(x) => market_events::prices::handle(words, x),
-        Event::Order(k, x) => customer_events::order::handle(words, k, x),
-        Event::Cancel(k, x) => customer_events::cancel::handle(words, k, x),
-        Event::Match(k, x) => customer_events::match_report::handle(words, k, x),
+        Event::Clock(time) => clock::handle(words, time),
+        Event::Session(s) => session::handle(words, s),
+        Event::Setup(x) => setup::handle(words, x),
+        Event::Prices(x) => prices::handle(words, x),
+        Event::Order(k, x) => order::handle(words, k, x),
+        Event::Cancel(k, x) => cancel::handle(words, k, x),
+        Event::Match(k, x) => match_report::handle(words, k, x),
     }
 }
 

@@ -7,3 +7,4 @@ pub use desks::put_desk;
 pub use desks::row_of;
 pub use securities::put_security;
 pub use securities::security_at;
+pub use securities::with_boards;

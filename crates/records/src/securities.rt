@@ -2,6 +2,7 @@
 ghost use mathlib.Core.Path.{_≡_};
 ghost use Prim.Native.Nat.{_+_, _≤_};
 ghost use lib.ListN.{length};
+ghost use Rattle.definitions.specs.Gate.{withBoards};
 ghost use Rattle.definitions.specs.State.{securityPlace, securityOf, securityWords, securityAt, putSecurity};
 use definitions::Board;
 use definitions::Security;
@@ -69,4 +70,18 @@ pub fn put_security(words: &mut [u32], s: u32, x: Security)
 {
     let at = security_place(s);
     copy_in(words, at, &security_words(x));
+}
+
+pub fn with_boards(main: Board, foreign: Board, s: Security) -> Security
+    ensures { λ r. ⌜ r ≡ withBoards main foreign s ⌝ }
+{
+    Security {
+        lot: s.lot,
+        free: s.free,
+        first_day: s.first_day,
+        prior_close: s.prior_close,
+        ipo: s.ipo,
+        main,
+        foreign,
+    }
 }
