@@ -35,6 +35,11 @@ legal p = leb firstPrice p && leb p lastPrice && onStep (bandOfPrice p) p
 unfoldable pub positionOf : ℕ → Position
 positionOf p = cond (legal p) (At (positionIn (bandOfPrice p) p)) Off
 
+-- 0, which is no position, for a price off the ladder
+abbrev pub positionNumber : Position → ℕ
+positionNumber (At k) = k
+positionNumber Off = 0
+
 -- 0, the absent price, for a number that is no position
 unfoldable pub priceAt : ℕ → ℕ
 priceAt k = cond (leb 1 k && leb k positions) (priceIn (bandOfPosition k) k) 0

@@ -1,11 +1,11 @@
 // Paper 01, "Prices and the ladder": which prices are legal, and at which position each stands.
 ghost use mathlib.Core.Path.{_≡_};
 ghost use Prim.Native.Nat.{_≤_};
-ghost use Rattle.ladder.specs.Ladder.{bandOfPrice, legal, onStep, positionOf, priceAt};
+ghost use Rattle.ladder.specs.Ladder.{bandOfPrice, legal, onStep, positionNumber, positionOf, priceAt};
 
-mod prices;
+mod legal_prices;
 
-use prices::PRICES;
+use legal_prices::LEGAL_PRICES;
 
 // A row of the paper's table: the first price and the step in satang, and the position of the first price.
 pub struct Band {
@@ -50,6 +50,16 @@ impl Ladder {
         Position::At(band.first + (price - band.from) / band.step)
     }
 
+    // 0, which is no position, for a price off the ladder.
+    pub fn position_number(p: Position) -> u32
+        ensures { λ r. ⌜ r ≡ positionNumber p ⌝ }
+    {
+        match p {
+            Position::At(k) => k,
+            Position::Off => 0,
+        }
+    }
+
     // 0, the absent price, for a number that is no position.
     pub fn price(position: u32) -> u32
         ensures { λ r. ⌜ r ≡ priceAt position ⌝ }
@@ -72,7 +82,7 @@ fn tabled(position: u32) -> u32
     requires { ⌜ (1 ≤ position) × (position ≤ 1300) ⌝ }
     ensures { λ r. ⌜ r ≡ priceAt position ⌝ }
 {
-    PRICES[(position - 1) as usize]
+    LEGAL_PRICES[(position - 1) as usize]
 }
 
 // Each step is a literal, since a remainder by a number that is known only at run time costs a division.

@@ -1,5 +1,5 @@
 // Paper 01, "Prices and the ladder": the legal prices at the positions 1 to 1,300, in satang.
-pub const PRICES: [u32; 1300] = [
+pub const LEGAL_PRICES: [u32; 1300] = [
     1,
     2,
     3,
