@@ -1,12 +1,13 @@
 -- Paper 01, "Where an event is turned back": the corners of the table, run on the definitions, and one theorem over the whole. The state has one customer
--- and one security: the header at 0, the security at 4, the desk's counters at 17 and its rows, nine words each, from 20 on.
+-- and one security.
 use mathlib.Core.List.{List, [], _∷_, _++_, map}
 use mathlib.Core.Path.{_≡_, refl}
-use Prim.Native.Nat.{ℕ, zero, suc}
+use Prim.Native.Nat.{ℕ, zero, suc, _+_, _*_}
 use lib.ListN.{set}
 use Rattle.definitions.specs.declared.Answer.{Answer}
 use Rattle.definitions.specs.declared.Answer.the-variants as answer
 use Rattle.definitions.specs.declared.Verdict.the-variants.{Accept, RejectS, RejectV}
+use Rattle.definitions.specs.State.{rowSize, countersSize, deskPlace, securityPlace}
 use Rattle.definitions.proofs.Bytes.{clock, session, setup, prices, order, cancel, match}
 use Rattle.definitions.proofs.Run.{answersOf, answerOn, wordsFrom, wordsOf}
 
@@ -23,6 +24,10 @@ met before event right = record { words = wordsOf 1 1 before; event = event; rig
 -- and one of them set to another value
 abbrev pub damaged : List (List ℕ) → ℕ → ℕ → List ℕ → Answer → Corner
 damaged before place value event right = record { words = set (wordsOf 1 1 before) place value; event = event; right = right }
+
+-- where the desk's rows stand
+abbrev pub rowPlace : ℕ → ℕ
+rowPlace i = deskPlace 1 0 + countersSize + rowSize * i
 
 -- limit buys of 100 shares at 50.00, online, and other types without a price
 abbrev pub buy : ℕ → List ℕ
@@ -89,6 +94,8 @@ corners =
     ∷ met [] (setup 0 10 0 0 0 0) (refused 5)
     ∷ met [] (setup 0 50 2 0 3 0) (refused 5)
     ∷ met [] (prices 0 2 0 0 0 0) (refused 5)
+    ∷ met [] (setup 0 10 0 0 6560 0) (refused 5)
+    ∷ met [] (prices 0 2 0 0 0 201) (refused 5)
     ∷ met [] (order 0 0 0 0 0 0 1 5001 100) (refused 5)
     ∷ met [] (order 0 1 0 0 0 4 1 0 100) (refused 5)
     ∷ met [] (order 0 1 0 0 0 0 3 5000 100) (refused 5)
@@ -105,14 +112,17 @@ corners =
     ∷ met (clock 5 ∷ []) (clock 4) (refused 7)
     ∷ met (clock 5 ∷ []) (clock 5) answer.Ok
     -- 8: a session event reads all records, also where the session stays; a clock event reads none
-    ∷ damaged opened 4 10 (session 2) (refused 8)
-    ∷ damaged opened 4 10 (prices 0 0 0 0 0 0) (refused 8)
-    ∷ damaged opened 4 10 (buy 1) (refused 8)
-    ∷ damaged opened 4 10 (cancel 0 1) (refused 10)
-    ∷ damaged opened 4 10 (clock 1) answer.Ok
-    ∷ damaged held 20 3 (cancel 0 1) (refused 8)
-    ∷ damaged held 29 1 (session 2) (refused 8)
-    -- 9: for MP too; a cancel is remembered for 60,000 ms
+    ∷ damaged opened (securityPlace 0) 10 (session 2) (refused 8)
+    ∷ damaged opened (securityPlace 0) 10 (prices 0 0 0 0 0 0) (refused 8)
+    ∷ damaged opened (securityPlace 0) 10 (buy 1) (refused 8)
+    ∷ damaged opened (securityPlace 0) 10 (cancel 0 1) (refused 10)
+    ∷ damaged opened (securityPlace 0) 10 (clock 1) answer.Ok
+    ∷ damaged held (rowPlace 0) 3 (cancel 0 1) (refused 8)
+    ∷ damaged held (rowPlace 1) 1 (session 2) (refused 8)
+    -- and 4 to 7 before it
+    ∷ damaged opened (securityPlace 0) 10 (setup 1 100 0 0 0 0) (refused 4)
+    ∷ damaged opened (securityPlace 0) 10 (order 0 1 0 0 0 0 1 5001 100) (refused 6)
+    -- 9: for MP too; a cancelled row holds its number for 60,000 ms
     ∷ met held (buy 1) (refused 9)
     ∷ met held (typed 1 3) (refused 9)
     ∷ met (held ++ (cancel 0 1 ∷ clock 60_000 ∷ [])) (buy 1) (refused 9)
@@ -125,7 +135,8 @@ corners =
     ∷ met held (match 0 1 0) (refused 11)
     ∷ met held (match 0 1 101) (refused 11)
     ∷ met held (match 0 1 100) answer.Ok
-    -- 12: not for MP, nor for an order that is rejected
+    -- 12: after 9, not for MP, nor for an order that is rejected
+    ∷ full [] (buy 1) (refused 9)
     ∷ full [] (buy 33) (refused 12)
     ∷ full [] (typed 33 3) (answer.Verdict Accept)
     ∷ full [] (typed 33 1) (answer.Verdict RejectS)

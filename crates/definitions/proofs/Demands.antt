@@ -1,47 +1,49 @@
 -- The three demands of paper 00 as theorems over the definitions of paper 01. Read this file first: each theorem stands under the sentence that it
--- proves. The definitions that it names are in crates/definitions/specs, but for two that stand beside their laws: `FoundFirst` in Turned.antt, and `Good`,
--- a well-formed state, in WellFormed.antt. That the code does what `step` says is the contract of `gate::handle`.
+-- proves. The definitions that it names are in crates/definitions/specs, but for two that stand beside their laws: `FoundFirst` in Refused.antt, and `Good`,
+-- a well-formed state, in WellFormed.antt. That the code does what `outcome` says is the contract of `gate::handle`.
 -- Assumes nothing.
-use mathlib.Core.Bool.{Bool, true, not}
+use mathlib.Core.Bool.{Bool, true, not, false}
 use mathlib.Core.List.{List}
 use mathlib.Core.Path.{_≡_, ap, sym, _∙_}
 use Prim.Native.Nat.{ℕ, _<_}
 use Rattle.definitions.specs.declared.Order.{Order}
+use Rattle.definitions.specs.declared.Event.{Event}
 use Rattle.definitions.specs.declared.Event.the-variants as event
 use Rattle.definitions.specs.declared.Answer.the-variants as answer
 use Rattle.definitions.specs.Lists.{all, keep}
-use Rattle.definitions.specs.State.{headerOf, sizesFit, fresh, securityAt, deskAt, putDesk, deskWords, stateFits}
-use Rattle.definitions.specs.Rules.{verdictOf}
-use Rattle.definitions.specs.Desks.{ordered}
-use Rattle.definitions.specs.Gate.{answerOf, wordsOf, eventIn, conditions, perform, step, stepAnswer, stepWords, wordsAfter, answersTo, allSound}
-use Rattle.definitions.specs.Lone.{Lone, loneFresh, loneAfter, loneAnswers, concerns, marketWords, customerWords}
+use Rattle.definitions.specs.State.{headerOf, sizesFit, fresh, putDesk, deskWords, stateFits}
+use Rattle.definitions.specs.Gate.{answerOf, wordsOf, recordsSound, conditions, verdictAt, orderedAt, perform, outcome, eventAnswer, eventWords, wordsAfter, answersTo}
+use Rattle.definitions.specs.Lone.{Lone, loneFresh, loneAfter, loneAnswers, isFed, marketWords, customerWords}
 use Rattle.definitions.proofs.State as state
-use Rattle.definitions.proofs.WellFormed.{Good, fits, all-sound}
+use Rattle.definitions.proofs.WellFormed as wellFormed
+use Rattle.definitions.proofs.WellFormed.{Good, fits}
 use Rattle.definitions.proofs.Fresh.{fresh-good, fresh-market, fresh-desk}
-use Rattle.definitions.proofs.Turned as turned
-use Rattle.definitions.proofs.Turned.{FoundFirst}
+use Rattle.definitions.proofs.Refused as refusals
+use Rattle.definitions.proofs.Refused.{FoundFirst}
 use Rattle.definitions.proofs.Isolation.{loneOf}
 use Rattle.definitions.proofs.Histories.{good-after, same-answers, same-after}
+use Rattle.definitions.specs.Events.{eventIn}
+use Rattle.definitions.specs.Refusals.{badName}
 
 -- DEMAND 1, of the definitions. (That nothing steps outside what was lent, wraps, loses bits or fails to end is proved of the code, function by function.)
 
 -- "no refused event changes a single lent word"
-pub refused-unchanged : (w b : List ℕ) (n : ℕ) → stepAnswer w b ≡ answer.Refused n → stepWords w b ≡ w
-refused-unchanged w b n e = turned.refused w b n e .words
+pub refused-unchanged : (w b : List ℕ) (n : ℕ) → eventAnswer w b ≡ answer.Refused n → eventWords w b ≡ w
+refused-unchanged w b n e = refusals.refused w b n e .words
 
 -- "no refusal comes except under the condition document 01 sets for its number": the condition with that number is met, and none above it in the table
-pub refused-by-condition : (w b : List ℕ) (n : ℕ) → stepAnswer w b ≡ answer.Refused n → FoundFirst n (conditions w b)
+pub refused-by-condition : (w b : List ℕ) (n : ℕ) → eventAnswer w b ≡ answer.Refused n → FoundFirst n (conditions w b)
 refused-by-condition w b n e =
-    let t = turned.refused w b n e in
-    turned.found-first n (conditions w b) (t .first) (t .some)
+    let t = refusals.refused w b n e in
+    refusals.found-first n (conditions w b) (t .first) (t .some)
 
 -- "and an event that meets such a condition gets the number found first"
-pub condition-refuses : (w b : List ℕ) (n : ℕ) → FoundFirst n (conditions w b) → (n ≡ 0 → ⊥) → stepAnswer w b ≡ answer.Refused n
-condition-refuses w b n found some = turned.refuses w b n (turned.first-found n (conditions w b) found) some
+pub condition-refuses : (w b : List ℕ) (n : ℕ) → FoundFirst n (conditions w b) → (n ≡ 0 → ⊥) → eventAnswer w b ≡ answer.Refused n
+condition-refuses w b n found some = refusals.refuses w b n (refusals.first-found n (conditions w b) found) some
 
--- so that an event that is not refused meets none of the thirteen
-pub unrefused-meets-none : (w b : List ℕ) → ((n : ℕ) → stepAnswer w b ≡ answer.Refused n → ⊥) → all (λ (c : ℕ × Bool). not (c .1)) (conditions w b) ≡ true
-unrefused-meets-none w b answered = turned.none-met (conditions w b) (turned.positive w b) (turned.unrefused w b answered)
+-- so that an event that is not refused meets no condition of its table
+pub unrefused-meets-none : (w b : List ℕ) → ((n : ℕ) → eventAnswer w b ≡ answer.Refused n → ⊥) → all (λ (c : ℕ × Bool). not (c .1)) (conditions w b) ≡ true
+unrefused-meets-none w b answered = refusals.none-met (conditions w b) (refusals.numbered-conditions w b) (refusals.unrefused w b answered)
 
 -- DEMAND 2, of the definitions: "From a fresh state, the verdict of every order not refused is the one that the exchange's 2011 screening standard, as
 -- condensed in document 01, gives for the events so far .. Rows and counters follow the same definition."
@@ -50,39 +52,40 @@ module _ (customers securities : ℕ) (fit : sizesFit customers securities ≡ t
   pub well-formed : (history : List (List ℕ)) → Good customers securities (wordsAfter (fresh customers securities) history)
   well-formed history = good-after (fresh customers securities) (fresh-good customers securities fit) history
 
-  -- so that conditions 1 and 8 never arise in a history
+  -- so that conditions 1 and 8 never arise in a history: every event that names what is there reads sound records
   pub state-fits : (history : List (List ℕ)) → stateFits (wordsAfter (fresh customers securities) history) ≡ true
   state-fits history = fits (wordsAfter (fresh customers securities) history) (well-formed history)
 
-  pub records-sound : (history : List (List ℕ)) → allSound (wordsAfter (fresh customers securities) history) ≡ true
-  records-sound history = all-sound (wordsAfter (fresh customers securities) history) (well-formed history)
+  pub records-sound : (history : List (List ℕ)) (e : Event) → badName (headerOf (wordsAfter (fresh customers securities) history)) e ≡ false
+      → recordsSound (wordsAfter (fresh customers securities) history) e ≡ true
+  records-sound history = wellFormed.records-sound (wordsAfter (fresh customers securities) history) (well-formed history)
 
   -- after every history an event that is not refused does what `perform` says of its kind
-  pub performs : (history : List (List ℕ)) (b : List ℕ) → ((n : ℕ) → stepAnswer (wordsAfter (fresh customers securities) history) b ≡ answer.Refused n → ⊥)
-      → step (wordsAfter (fresh customers securities) history) b ≡ perform (wordsAfter (fresh customers securities) history) (eventIn b)
-  performs history b answered = turned.unrefused-performs (wordsAfter (fresh customers securities) history) b answered
+  pub performs : (history : List (List ℕ)) (b : List ℕ) → ((n : ℕ) → eventAnswer (wordsAfter (fresh customers securities) history) b ≡ answer.Refused n → ⊥)
+      → outcome (wordsAfter (fresh customers securities) history) b ≡ perform (wordsAfter (fresh customers securities) history) (eventIn b)
+  performs history b answered = refusals.unrefused-performs (wordsAfter (fresh customers securities) history) b answered
 
   -- and an order gets the first verdict that applies to the session, the clock, its security, its customer's desk and itself; its desk's counters and rows
   -- follow that verdict, and no other word changes
   pub record Judged (w b : List ℕ) (k : ℕ) (o : Order) : Type 0 where
-    pub verdict : stepAnswer w b ≡ answer.Verdict (verdictOf (headerOf w .session) (headerOf w .clock) (securityAt w (o .security)) (deskAt w k) o)
-    pub words : stepWords w b ≡ putDesk w k (ordered (verdictOf (headerOf w .session) (headerOf w .clock) (securityAt w (o .security)) (deskAt w k) o) (headerOf w .clock) o (deskAt w k))
+    pub verdict : eventAnswer w b ≡ answer.Verdict (verdictAt w k o)
+    pub words : eventWords w b ≡ putDesk w k (orderedAt w k o)
 
   pub judged : (history : List (List ℕ)) (b : List ℕ) (k : ℕ) (o : Order) → eventIn b ≡ event.Order k o
-      → ((n : ℕ) → stepAnswer (wordsAfter (fresh customers securities) history) b ≡ answer.Refused n → ⊥)
+      → ((n : ℕ) → eventAnswer (wordsAfter (fresh customers securities) history) b ≡ answer.Refused n → ⊥)
       → Judged (wordsAfter (fresh customers securities) history) b k o
   unfolding perform
   judged history b k o e answered =
       let w = wordsAfter (fresh customers securities) history in
-      let does : step w b ≡ perform w (event.Order k o) = performs history b answered ∙ ap (perform w) e in
+      let does : outcome w b ≡ perform w (event.Order k o) = performs history b answered ∙ ap (perform w) e in
       record { verdict = ap answerOf does; words = ap (wordsOf w) does }
 
   -- DEMAND 3: for every history and every customer k, "these answers, rows, counters and words are exactly those of the lone run in document 01, which is
   -- fed these events and nothing of the others"
   pub record Isolated (k : ℕ) (history : List (List ℕ)) : Type 0 where
-    pub answers : answersTo (concerns customers k) (fresh customers securities) history ≡ loneAnswers (loneFresh customers securities) (keep (concerns customers k) history)
-    pub market : marketWords (wordsAfter (fresh customers securities) history) ≡ loneAfter (loneFresh customers securities) (keep (concerns customers k) history) .market
-    pub desk : customerWords (wordsAfter (fresh customers securities) history) k ≡ deskWords (loneAfter (loneFresh customers securities) (keep (concerns customers k) history) .desk)
+    pub answers : answersTo (isFed customers k) (fresh customers securities) history ≡ loneAnswers (loneFresh customers securities) (keep (isFed customers k) history)
+    pub market : marketWords (wordsAfter (fresh customers securities) history) ≡ loneAfter (loneFresh customers securities) (keep (isFed customers k) history) .market
+    pub desk : customerWords (wordsAfter (fresh customers securities) history) k ≡ deskWords (loneAfter (loneFresh customers securities) (keep (isFed customers k) history) .desk)
 
   fresh-lone : (k : ℕ) → k < customers → loneOf (fresh customers securities) k ≡ loneFresh customers securities
   fresh-lone k below i = record { market = fresh-market customers securities i; desk = fresh-desk customers securities k below i }
@@ -91,11 +94,11 @@ module _ (customers securities : ℕ) (fit : sizesFit customers securities ≡ t
   isolated k below history =
       let w = fresh customers securities in
       let good = fresh-good customers securities fit in
-      let start = ap (λ (l : Lone). loneAfter l (keep (concerns customers k) history)) (fresh-lone k below) in
+      let start = ap (λ (l : Lone). loneAfter l (keep (isFed customers k) history)) (fresh-lone k below) in
       let after = sym (same-after k below w good history) ∙ start in
       record {
         answers =
-            sym (same-answers k below w good history) ∙ ap (λ (l : Lone). loneAnswers l (keep (concerns customers k) history)) (fresh-lone k below);
+            sym (same-answers k below w good history) ∙ ap (λ (l : Lone). loneAnswers l (keep (isFed customers k) history)) (fresh-lone k below);
         market = ap (λ (l : Lone). l .market) after;
         desk = state.customer-words (wordsAfter w history) (well-formed history .sized) k below ∙ ap (λ (l : Lone). deskWords (l .desk)) after;
       }
@@ -104,11 +107,11 @@ module _ (customers securities : ℕ) (fit : sizesFit customers securities ≡ t
   -- themselves, are alike in the answers to these events and, after the whole list, in that customer's rows and counters and in the market's words,
   -- however the other customers' events, and those that belong to nobody, are changed, added, dropped or moved"
   pub record Alike (k : ℕ) (one other : List (List ℕ)) : Type 0 where
-    pub answers : answersTo (concerns customers k) (fresh customers securities) one ≡ answersTo (concerns customers k) (fresh customers securities) other
+    pub answers : answersTo (isFed customers k) (fresh customers securities) one ≡ answersTo (isFed customers k) (fresh customers securities) other
     pub market : marketWords (wordsAfter (fresh customers securities) one) ≡ marketWords (wordsAfter (fresh customers securities) other)
     pub desk : customerWords (wordsAfter (fresh customers securities) one) k ≡ customerWords (wordsAfter (fresh customers securities) other) k
 
-  pub alike : (k : ℕ) → k < customers → (one other : List (List ℕ)) → keep (concerns customers k) one ≡ keep (concerns customers k) other → Alike k one other
+  pub alike : (k : ℕ) → k < customers → (one other : List (List ℕ)) → keep (isFed customers k) one ≡ keep (isFed customers k) other → Alike k one other
   alike k below one other same =
       let a = isolated k below one in
       let b = isolated k below other in

@@ -15,53 +15,42 @@ use Rattle.definitions.specs.declared.Desk.{Desk}
 use Rattle.definitions.specs.declared.Order.{Order}
 use Rattle.definitions.specs.declared.Event.{Event}
 use Rattle.definitions.specs.declared.Event.the-variants as event
-use Rattle.definitions.specs.declared.Reading.{Reading}
-use Rattle.definitions.specs.declared.Reading.the-variants as reading
 use Rattle.definitions.specs.declared.Answer.{Answer}
 use Rattle.definitions.specs.declared.Answer.the-variants as answer
-use Rattle.definitions.specs.Lists.{each, put}
+use Rattle.definitions.specs.Codes.{deskRows}
+use Rattle.definitions.specs.Lists.{each, put, firstMet}
 use Rattle.definitions.specs.State.{headerOf, securityAt, deskAt, putSecurity, putDesk, sessionPlace}
-use Rattle.definitions.specs.Events.{customer, nobody, readEvent, customerNamed, securityNamed, customerBelow, ownerOfEvent, ownerOfReading, ownerOf}
-use Rattle.definitions.specs.Desks.{swept, ordered, cancelled}
-use Rattle.definitions.specs.Rules.{verdictOf}
-use Rattle.definitions.specs.Refusals as refusals
-use Rattle.definitions.specs.Refusals.{View, firstMet}
-use Rattle.definitions.specs.Gate.{Outcome, turned, answerOf, wordsOf, viewOf, unsound, refusal, afterSetup, afterPrices, afterClock, afterSession, sessionMarket, clearProjectedAt, sweepDeskAt, perform, stepEvent, stepReading, step, stepWords}
-use Rattle.definitions.specs.Lone.{Lone, LoneStep, marketWords, loneView, loneRefusal, loneDone, loneSession, lonePerform, loneTurned, loneEvent, loneReading, loneStep, fedTo, concerns}
+use Rattle.definitions.specs.Events.{eventIn, bytesConditions, Named, none, one, every, customerNamed, securityNamed, customer, nobody, ownerNamed, ownerOf}
+use Rattle.definitions.specs.Desks.{sessionRow, cancelledRow, matchedRow, changed, ordered}
+use Rattle.definitions.specs.Rules.{View, verdictOf}
+use Rattle.definitions.specs.Refusals.{beyond, badName, earlyConditions, laterConditions, eventConditions}
+use Rattle.definitions.specs.Gate.{Outcome, refused, answerOf, wordsOf, numberOf, viewOf, recordsSound, conditions, afterSetup, afterPrices, afterSession, sessionMarket, changeSecurity, changeDesk, perform, refusedOr, outcome, eventWords, withoutProjected}
+use Rattle.definitions.specs.Lone.{Lone, marketWords, loneView, loneConditions, loneDone, loneSession, lonePerform, loneRefusedOr, loneOutcome, fedTo, isFed}
+use Rattle.definitions.proofs.Tests.{or-parts}
+use Rattle.definitions.proofs.Table.{first-append, first-without}
 use Rattle.definitions.proofs.State as state
 use Rattle.definitions.proofs.HeaderWords as words
-use Rattle.definitions.proofs.Passed.{Passed, passed}
+use Rattle.definitions.proofs.Passed.{table, Passed, passed, numbered-bytes, none-met-bytes, none-met-event, outcome-read}
 use Rattle.definitions.proofs.SoundDesk as desk
-use Rattle.definitions.proofs.WellFormed.{Good, compared, all-sound, cleared, whole-session, order-names, step-is, below-securities, below-customers, desk-sound}
+use Rattle.definitions.proofs.WellFormed.{Good, fits, compared, records-sound, cleared, whole-session, order-names, customer-named, below-securities}
 
 -- what the lone run of k holds of a state
 abbrev pub loneOf : List ℕ → ℕ → Lone
 loneOf w k = record { market = marketWords w; desk = deskAt w k }
 
 abbrev viewWith : Header → Security → Desk → View
-viewWith h s d = record { header = h; security = s; desk = d }
+viewWith h s d = record { market = record { session = h .session; clock = h .clock; security = s }; desk = d }
 
--- the table's order, given the header, condition 8 and what the event meets
-abbrev refusalBy : Header → Bool → View → Event → ℕ
-refusalBy h unsound v e =
-    firstMet
-    ((4, refusals.names h e)
-    ∷ (5, refusals.codes e)
-    ∷ (6, refusals.prices e)
-    ∷ (7, refusals.earlier h e)
-    ∷ (8, unsound)
-    ∷ (9, refusals.numberTaken v e)
-    ∷ (10, refusals.noOpenRow v e)
-    ∷ (11, refusals.matchVolume v e)
-    ∷ (12, refusals.deskFull v e)
-    ∷ [])
+-- the number found first, given the header, the records' condition and what the event meets
+abbrev foundBy : Header → List (ℕ × Bool) → View → Event → ℕ
+foundBy h records v e = firstMet (eventConditions h records v e)
 
-named-first : (h : Header) (u₁ u₂ : Bool) (v₁ v₂ : View) (e : Event) → refusals.names h e ≡ true → refusalBy h u₁ v₁ e ≡ refusalBy h u₂ v₂ e
+named-first : (h : Header) (r₁ r₂ : List (ℕ × Bool)) (v₁ v₂ : View) (e : Event) → badName h e ≡ true → foundBy h r₁ v₁ e ≡ foundBy h r₂ v₂ e
 unfolding firstMet
-named-first h u₁ u₂ v₁ v₂ e t = rw t
+named-first h r₁ r₂ v₁ v₂ e t = rw t
 
 -- a customer of whom an event speaks, where the lone run of k is fed it
-fed-customer : (customers j k : ℕ) → fedTo k (customerBelow customers j) ≡ true → j ≡ k
+fed-customer : (customers j k : ℕ) → fedTo k (ownerNamed customers (one j)) ≡ true → j ≡ k
 fed-customer customers j k = go (ltb j customers)
   where
     go : (t : Bool) → fedTo k (cond t (customer j) nobody) ≡ true → j ≡ k
@@ -80,68 +69,61 @@ module _ {customers securities : ℕ} (w : List ℕ) (good : Good customers secu
       let parts = and-eq-true-iff (leb 1 customers && leb customers 256 && leb 1 securities) (leb securities 1_024) .0 (good .fit) in
       leb-true 1 securities (and-eq-true-iff (leb 1 customers && leb customers 256) (leb 1 securities) .0 (parts .0) .1)
 
-  -- condition 8 is not met by an event that names what is there
-  sound-when-named : (e : Event) → refusals.names (headerOf w) e ≡ false → unsound w e ≡ false
-  unfolding unsound refusals.names
-  sound-when-named (event.Clock t) n = refl
-  sound-when-named (event.Session s) n = ap not (all-sound w good)
-  sound-when-named (event.Setup x) n = ap not (good .securities-sound (x .security) (below-securities w good (x .security) n))
-  sound-when-named (event.Prices x) n = ap not (good .securities-sound (x .security) (below-securities w good (x .security) n))
-  sound-when-named (event.Order j x) n =
-      let both = order-names w good j (x .security) n in
-      rw (good .securities-sound (x .security) (both .1)) (ap not (desk-sound w good j (both .0)))
-  sound-when-named (event.Cancel j x) n = ap not (desk-sound w good j (below-customers w good j n))
-  sound-when-named (event.Match j x) n = ap not (desk-sound w good j (below-customers w good j n))
+  -- a security that is named is there, and where none is, security 0 is
+  named-there : (x : Named) → beyond (headerOf w .securities) x ≡ false → numberOf x < securities
+  named-there none inside = some-security
+  named-there (one s) inside = below-securities w good s inside
+  named-there every inside = some-security
 
   -- the lone run meets what the gate meets, where the event is k's and the security that it names is there
-  view-same : (e : Event) → securityNamed e < securities → customerNamed e ≡ k → loneView (loneOf w k) e ≡ viewOf w e
-  unfolding viewOf
-  view-same e s-below own =
-      ap₂ (λ (h : Header) (s : Security). viewWith h s (deskAt w k)) header-same (security-same (securityNamed e) s-below)
-      ∙ ap (λ (j : ℕ). viewWith (headerOf w) (securityAt w (securityNamed e)) (deskAt w j)) (sym own)
+  view-same : (e : Event) → badName (headerOf w) e ≡ false → numberOf (customerNamed e) ≡ k → loneView (loneOf w k) (numberOf (securityNamed e)) ≡ viewOf w e
+  view-same e n own =
+      let parts = or-parts (beyond (headerOf w .customers) (customerNamed e)) (beyond (headerOf w .securities) (securityNamed e)) n in
+      ap₂ (λ (h : Header) (s : Security). viewWith h s (deskAt w k)) header-same (security-same (numberOf (securityNamed e)) (named-there (securityNamed e) (parts .1)))
+      ∙ ap (λ (j : ℕ). viewWith (headerOf w) (securityAt w (numberOf (securityNamed e))) (deskAt w j)) (sym own)
 
   abbrev Fed : Event → Type 0
-  Fed e = fedTo k (ownerOfEvent customers e) ≡ true
+  Fed e = fedTo k (ownerNamed customers (customerNamed e)) ≡ true
 
-  abbrev by : View → Event → ℕ
-  by v e = refusalBy (headerOf w) false v e
+  abbrev metAlone : Event → View
+  metAlone e = loneView (loneOf w k) (numberOf (securityNamed e))
 
-  tests-same : (e : Event) → Fed e → refusals.names (headerOf w) e ≡ false → by (loneView (loneOf w k) e) e ≡ by (viewOf w e) e
-  unfolding refusals.names refusals.numberTaken refusals.noOpenRow refusals.matchVolume refusals.deskFull
+  -- the conditions after 8 see a desk only where the event is a customer's
+  tests-same : (e : Event) → Fed e → badName (headerOf w) e ≡ false → foundBy (headerOf w) [] (metAlone e) e ≡ foundBy (headerOf w) [] (viewOf w e) e
   tests-same (event.Clock t) fed n = refl
   tests-same (event.Session s) fed n = refl
   tests-same (event.Setup x) fed n = refl
   tests-same (event.Prices x) fed n = refl
   tests-same (event.Order j x) fed n =
-      ap (λ (v : View). by v (event.Order j x)) (view-same (event.Order j x) (order-names w good j (x .security) n .1) (fed-customer customers j k fed))
+      ap (λ (v : View). foundBy (headerOf w) [] v (event.Order j x)) (view-same (event.Order j x) n (fed-customer customers j k fed))
   tests-same (event.Cancel j x) fed n =
-      ap (λ (v : View). by v (event.Cancel j x)) (view-same (event.Cancel j x) some-security (fed-customer customers j k fed))
+      ap (λ (v : View). foundBy (headerOf w) [] v (event.Cancel j x)) (view-same (event.Cancel j x) n (fed-customer customers j k fed))
   tests-same (event.Match j x) fed n =
-      ap (λ (v : View). by v (event.Match j x)) (view-same (event.Match j x) some-security (fed-customer customers j k fed))
+      ap (λ (v : View). foundBy (headerOf w) [] v (event.Match j x)) (view-same (event.Match j x) n (fed-customer customers j k fed))
 
   -- "gets the number found first": the same in both, since condition 8 never arises
-  same-refusal : (e : Event) → Fed e → loneRefusal (loneOf w k) e ≡ refusal w e
-  unfolding loneRefusal refusal firstMet
-  same-refusal e fed =
-      ap (λ (h : Header). refusalBy h false (loneView (loneOf w k) e) e) header-same ∙ go (refusals.names (headerOf w) e) refl
+  same-refusal : (e : Event) → Fed e → foundBy (headerOf (marketWords w)) [] (metAlone e) e ≡ firstMet (table w e)
+  same-refusal e fed = ap (λ (h : Header). foundBy h [] (metAlone e) e) header-same ∙ go (badName (headerOf w) e) refl
     where
-      go : (t : Bool) → refusals.names (headerOf w) e ≡ t → by (loneView (loneOf w k) e) e ≡ refusalBy (headerOf w) (unsound w e) (viewOf w e) e
-      go true n = named-first (headerOf w) false (unsound w e) (loneView (loneOf w k) e) (viewOf w e) e n
+      go : (t : Bool) → badName (headerOf w) e ≡ t → foundBy (headerOf w) [] (metAlone e) e ≡ firstMet (table w e)
+      go true n = named-first (headerOf w) [] ((8, not (recordsSound w e)) ∷ []) (metAlone e) (viewOf w e) e n
       go false n =
-          tests-same e fed n ∙ ap (λ (u : Bool). refusalBy (headerOf w) u (viewOf w e) e) (sym (sound-when-named e n))
+          tests-same e fed n
+          ∙ sym (first-without (earlyConditions (headerOf w) e) (laterConditions (viewOf w e) e) 8)
+          ∙ ap (λ (t : Bool). foundBy (headerOf w) ((8, not t) ∷ []) (viewOf w e) e) (sym (records-sound w good e n))
 
   -- what the gate did, as the lone run would show it
-  abbrev shown : Outcome → LoneStep
-  shown o = record { answer = answerOf o; after = loneOf (wordsOf w o) k }
+  abbrev shown : Outcome → Answer × Lone
+  shown o = (answerOf o, loneOf (wordsOf w o) k)
 
   -- an order decided by a header, a security and the desk
-  abbrev orderBy : Order → Header → Security → LoneStep
+  abbrev orderBy : Order → Header → Security → Answer × Lone
   orderBy x h s =
-      loneDone (answer.Verdict (verdictOf (h .session) (h .clock) s (deskAt w k) x)) (marketWords w)
-      (ordered (verdictOf (h .session) (h .clock) s (deskAt w k) x) (h .clock) x (deskAt w k))
+      loneDone (answer.Verdict (verdictOf (viewWith h s (deskAt w k)) x)) (marketWords w)
+      (ordered (verdictOf (viewWith h s (deskAt w k)) x) (h .clock) x (deskAt w k))
 
   -- a desk put back at k's place
-  put-back : (a : Answer) (d : Desk) → length (d .rows) ≡ 32 → loneDone a (marketWords w) d ≡ loneDone a (marketWords (putDesk w k d)) (deskAt (putDesk w k d) k)
+  put-back : (a : Answer) (d : Desk) → length (d .rows) ≡ deskRows → loneDone a (marketWords w) d ≡ loneDone a (marketWords (putDesk w k d)) (deskAt (putDesk w k d) k)
   put-back a d whole =
       ap₂ (loneDone a) (sym (state.market-put-desk w (good .sized) k below d whole)) (sym (state.desk-put-same w (good .sized) k below d whole))
 
@@ -155,76 +137,87 @@ module _ {customers securities : ℕ} (w : List ℕ) (good : Good customers secu
       ∙ sym (state.market-put-security w (good .sized) s s-below (f (securityAt w s))))
       (sym (state.desk-put-security w (good .sized) s s-below (f (securityAt w s)) k))
 
-  rows-whole : length (deskAt w k .rows) ≡ 32
+  rows-whole : length (deskAt w k .rows) ≡ deskRows
   rows-whole = state.length-desk-rows w (good .sized) k
 
   session-same : (s : ℕ) → loneSession (loneOf w k) s ≡ shown (perform w (event.Session s))
   unfolding perform afterSession sessionMarket
   session-same s =
-      ap (λ (h : Header). cond (eqb s (h .session)) (loneDone answer.Ok (marketWords w) (deskAt w k)) changed) header-same ∙ go (eqb s (headerOf w .session))
+      ap (λ (h : Header). cond (eqb s (h .session)) (loneDone answer.Ok (marketWords w) (deskAt w k)) anew) header-same ∙ go (eqb s (headerOf w .session))
     where
-      changed : LoneStep
-      changed = loneDone answer.Ok (sessionMarket s (marketWords w)) (swept (deskAt w k))
+      anew : Answer × Lone
+      anew = loneDone answer.Ok (sessionMarket s (marketWords w)) (changed sessionRow (deskAt w k))
 
-      swept-words : List ℕ
-      swept-words = each (headerOf w .customers) sweepDeskAt (sessionMarket s w)
+      changed-words : List ℕ
+      changed-words = each (headerOf w .customers) (changeDesk (changed sessionRow)) (sessionMarket s w)
 
-      market-same : sessionMarket s (marketWords w) ≡ marketWords swept-words
+      market-same : sessionMarket s (marketWords w) ≡ marketWords changed-words
       market-same =
-          ap (λ (h : Header). each (h .securities) clearProjectedAt (put (marketWords w) sessionPlace (s ∷ []))) header-same
-          ∙ ap (λ (n : ℕ). each n clearProjectedAt (put (marketWords w) sessionPlace (s ∷ []))) (good .sized .counted)
-          ∙ ap (each securities clearProjectedAt) (sym (words.market-put w (good .sized) 3 (lit≤ tt) (lit< tt) s))
+          ap (λ (h : Header). each (h .securities) (changeSecurity withoutProjected) (put (marketWords w) sessionPlace (s ∷ []))) header-same
+          ∙ ap (λ (n : ℕ). each n (changeSecurity withoutProjected) (put (marketWords w) sessionPlace (s ∷ []))) (good .sized .counted)
+          ∙ ap (each securities (changeSecurity withoutProjected)) (sym (words.market-put w (good .sized) 3 (lit≤ tt) (lit< tt) s))
           ∙ sym (cleared w good s .market)
           ∙ sym (whole-session w good s .market)
 
-      desk-same : swept (deskAt w k) ≡ deskAt swept-words k
+      desk-same : changed sessionRow (deskAt w k) ≡ deskAt changed-words k
       desk-same =
-          ap swept (sym (words.desk-put w (good .sized) 3 (lit≤ tt) (lit< tt) s k) ∙ sym (cleared w good s .desks k)) ∙ sym (whole-session w good s .done k below)
+          ap (changed sessionRow) (sym (words.desk-put w (good .sized) 3 (lit≤ tt) (lit< tt) s k) ∙ sym (cleared w good s .desks k)) ∙ sym (whole-session w good s .done k below)
 
-      go : (t : Bool) → cond t (loneDone answer.Ok (marketWords w) (deskAt w k)) changed ≡ loneDone answer.Ok (marketWords (cond t w swept-words)) (deskAt (cond t w swept-words) k)
+      go : (t : Bool) → cond t (loneDone answer.Ok (marketWords w) (deskAt w k)) anew ≡ loneDone answer.Ok (marketWords (cond t w changed-words)) (deskAt (cond t w changed-words) k)
       go true = refl
       go false = ap₂ (loneDone answer.Ok) market-same desk-same
 
   -- an event that meets no condition does in the lone run what it does in the gate
   same-perform : (e : Event) → Fed e → Passed w e → lonePerform (loneOf w k) e ≡ shown (perform w e)
-  unfolding lonePerform perform afterClock refusals.names
+  unfolding lonePerform perform
   same-perform (event.Clock t) fed p =
       ap₂ (loneDone answer.Ok) (sym (words.market-put w (good .sized) 2 (lit≤ tt) (lit< tt) t)) (sym (words.desk-put w (good .sized) 2 (lit≤ tt) (lit< tt) t k))
   same-perform (event.Session s) fed p = session-same s
-  same-perform (event.Setup x) fed p = put-security (x .security) (afterSetup x) (below-securities w good (x .security) (p .names))
-  same-perform (event.Prices x) fed p = put-security (x .security) (afterPrices x) (below-securities w good (x .security) (p .names))
+  same-perform (event.Setup x) fed p =
+      put-security (x .security) (afterSetup x) (below-securities w good (x .security) (passed 4 w (event.Setup x) p))
+  same-perform (event.Prices x) fed p =
+      put-security (x .security) (afterPrices x) (below-securities w good (x .security) (passed 4 w (event.Prices x) p))
   same-perform (event.Order j x) fed p =
-      ap₂ (orderBy x) header-same (security-same (x .security) (order-names w good j (x .security) (p .names) .1))
+      ap₂ (orderBy x) header-same (security-same (x .security) (order-names w good j (x .security) (passed 4 w (event.Order j x) p) .1))
       ∙ put-back _ _ (desk.length-ordered _ (headerOf w .clock) x (deskAt w k) ∙ rows-whole)
       ∙ ap (λ (i : ℕ). shown (perform w (event.Order i x))) (sym (fed-customer customers j k fed))
   same-perform (event.Cancel j x) fed p =
-      ap (λ (h : Header). loneDone answer.Ok (marketWords w) (cancelled (x .number) (h .clock) (deskAt w k))) header-same
-      ∙ put-back _ _ (desk.length-cancelled (x .number) (headerOf w .clock) (deskAt w k) ∙ rows-whole)
+      ap (λ (h : Header). loneDone answer.Ok (marketWords w) (changed (cancelledRow (x .number) (h .clock)) (deskAt w k))) header-same
+      ∙ put-back _ _ (desk.length-changed (cancelledRow (x .number) (headerOf w .clock)) (deskAt w k) ∙ rows-whole)
       ∙ ap (λ (i : ℕ). shown (perform w (event.Cancel i x))) (sym (fed-customer customers j k fed))
   same-perform (event.Match j x) fed p =
-      put-back _ _ (desk.length-matched (x .number) (x .volume) (deskAt w k) ∙ rows-whole)
+      put-back _ _ (desk.length-changed (matchedRow (x .number) (x .volume)) (deskAt w k) ∙ rows-whole)
       ∙ ap (λ (i : ℕ). shown (perform w (event.Match i x))) (sym (fed-customer customers j k fed))
 
-  same-event : (e : Event) → Fed e → loneEvent (loneOf w k) e ≡ shown (stepEvent w e)
-  unfolding loneEvent stepEvent
-  same-event e fed =
-      ap (λ (n : ℕ). cond (eqb n 0) (lonePerform (loneOf w k) e) (loneTurned (loneOf w k) n)) (same-refusal e fed) ∙ go (eqb (refusal w e) 0) refl
-    where
-      go : (t : Bool) → eqb (refusal w e) 0 ≡ t → cond t (lonePerform (loneOf w k) e) (loneTurned (loneOf w k) (refusal w e)) ≡ shown (cond t (perform w e) (turned (refusal w e)))
-      go true none = same-perform e fed (passed w e (eqb-true (refusal w e) 0 none))
-      go false some = refl
-
   -- an event of the market or of k
-  pub same-step : (b : List ℕ) → concerns customers k b ≡ true → loneStep (loneOf w k) b ≡ shown (step w b)
-  unfolding concerns ownerOf loneStep
-  same-step b fed = go (readEvent b) fed ∙ ap shown (sym (step-is w good b))
+  pub same-event : (b : List ℕ) → isFed customers k b ≡ true → loneOutcome (loneOf w k) b ≡ shown (outcome w b)
+  unfolding isFed ownerOf loneOutcome loneConditions
+  same-event b fed =
+      ap (λ (n : ℕ). loneRefusedOr n (loneOf w k) (lonePerform (loneOf w k) e))
+      (first-append (bytesConditions b) (eventConditions (headerOf (marketWords w)) [] (metAlone e) e) (numbered-bytes b))
+      ∙ read (eqb unread 0) refl fed
+      ∙ ap shown (sym (outcome-read w b (fits w good)))
     where
-      go : (r : Reading) → fedTo k (ownerOfReading customers r) ≡ true → loneReading (loneOf w k) r ≡ shown (stepReading w r)
-      go (reading.Refused n) f = absurd (false≢true f)
-      go (reading.Whole e) f = same-event e f
+      e : Event
+      e = eventIn b
+
+      unread : ℕ
+      unread = firstMet (bytesConditions b)
+
+      told : (t : Bool) → eqb (firstMet (table w e)) 0 ≡ t → Fed e
+          → cond t (lonePerform (loneOf w k) e) (loneDone (answer.Refused (firstMet (table w e))) (marketWords w) (deskAt w k)) ≡ shown (cond t (perform w e) (refused (firstMet (table w e))))
+      told true unmet own = same-perform e own (eqb-true (firstMet (table w e)) 0 unmet)
+      told false some own = refl
+
+      read : (t : Bool) → eqb unread 0 ≡ t → fedTo k (cond t (ownerNamed customers (customerNamed e)) nobody) ≡ true
+          → loneRefusedOr (cond t (foundBy (headerOf (marketWords w)) [] (metAlone e) e) unread) (loneOf w k) (lonePerform (loneOf w k) e)
+          ≡ shown (refusedOr (cond t (firstMet (table w e)) unread) (perform w e))
+      read true whole own =
+          ap (λ (n : ℕ). loneRefusedOr n (loneOf w k) (lonePerform (loneOf w k) e)) (same-refusal e own) ∙ told (eqb (firstMet (table w e)) 0) refl own
+      read false short own = absurd (false≢true own)
 
   -- another customer's desk put back
-  other-desk : (j : ℕ) (d : Desk) → j < customers → (j ≡ k → ⊥) → length (d .rows) ≡ 32 → loneOf (putDesk w j d) k ≡ loneOf w k
+  other-desk : (j : ℕ) (d : Desk) → j < customers → (j ≡ k → ⊥) → length (d .rows) ≡ deskRows → loneOf (putDesk w j d) k ≡ loneOf w k
   other-desk j d j-below differ whole =
       ap₂ {C = Lone} (λ (m : List ℕ) (x : Desk). record { market = m; desk = x })
       (state.market-put-desk w (good .sized) j j-below d whole)
@@ -232,37 +225,41 @@ module _ {customers securities : ℕ} (w : List ℕ) (good : Good customers secu
       (⊎-elim (λ e. absurd (differ (sym e))) (λ more. state.desk-put-above w (good .sized) j j-below d whole k more))
       (compared k j))
 
-  not-own : (j : ℕ) → j < customers → fedTo k (customerBelow customers j) ≡ false → j ≡ k → ⊥
+  not-own : (j : ℕ) → j < customers → fedTo k (ownerNamed customers (one j)) ≡ false → j ≡ k → ⊥
   not-own j j-below f = eqb-false j k (rw (lt-ltb j customers j-below) at f)
 
-  other-rows : (j : ℕ) → length (deskAt w j .rows) ≡ 32
+  other-rows : (j : ℕ) → length (deskAt w j .rows) ≡ deskRows
   other-rows j = state.length-desk-rows w (good .sized) j
 
-  other-perform : (e : Event) → fedTo k (ownerOfEvent customers e) ≡ false → Passed w e → loneOf (wordsOf w (perform w e)) k ≡ loneOf w k
-  unfolding perform refusals.names
+  other-perform : (e : Event) → fedTo k (ownerNamed customers (customerNamed e)) ≡ false → Passed w e → loneOf (wordsOf w (perform w e)) k ≡ loneOf w k
+  unfolding perform
   other-perform (event.Clock t) f p = absurd (true≢false f)
   other-perform (event.Session s) f p = absurd (true≢false f)
   other-perform (event.Setup x) f p = absurd (true≢false f)
   other-perform (event.Prices x) f p = absurd (true≢false f)
   other-perform (event.Order j x) f p =
-      let j-below = order-names w good j (x .security) (p .names) .0 in
+      let j-below = order-names w good j (x .security) (passed 4 w (event.Order j x) p) .0 in
       other-desk j _ j-below (not-own j j-below f) (desk.length-ordered _ (headerOf w .clock) x (deskAt w j) ∙ other-rows j)
   other-perform (event.Cancel j x) f p =
-      let j-below = below-customers w good j (p .names) in
-      other-desk j _ j-below (not-own j j-below f) (desk.length-cancelled (x .number) (headerOf w .clock) (deskAt w j) ∙ other-rows j)
+      let j-below = customer-named w good j (passed 4 w (event.Cancel j x) p) in
+      other-desk j _ j-below (not-own j j-below f) (desk.length-changed (cancelledRow (x .number) (headerOf w .clock)) (deskAt w j) ∙ other-rows j)
   other-perform (event.Match j x) f p =
-      let j-below = below-customers w good j (p .names) in
-      other-desk j _ j-below (not-own j j-below f) (desk.length-matched (x .number) (x .volume) (deskAt w j) ∙ other-rows j)
+      let j-below = customer-named w good j (passed 4 w (event.Match j x) p) in
+      other-desk j _ j-below (not-own j j-below f) (desk.length-changed (matchedRow (x .number) (x .volume)) (deskAt w j) ∙ other-rows j)
 
   -- an event of another customer, or of nobody
-  pub other-step : (b : List ℕ) → concerns customers k b ≡ false → loneOf (stepWords w b) k ≡ loneOf w k
-  unfolding concerns ownerOf stepEvent
-  other-step b f = ap (λ (o : Outcome). loneOf (wordsOf w o) k) (step-is w good b) ∙ read (readEvent b) f
+  pub other-event : (b : List ℕ) → isFed customers k b ≡ false → loneOf (eventWords w b) k ≡ loneOf w k
+  unfolding isFed ownerOf outcome
+  other-event b f = tried (eqb first 0) refl
     where
-      tried : (e : Event) → fedTo k (ownerOfEvent customers e) ≡ false → (t : Bool) → eqb (refusal w e) 0 ≡ t → loneOf (wordsOf w (cond t (perform w e) (turned (refusal w e)))) k ≡ loneOf w k
-      tried e g true none = other-perform e g (passed w e (eqb-true (refusal w e) 0 none))
-      tried e g false some = refl
+      first : ℕ
+      first = firstMet (conditions w b)
 
-      read : (r : Reading) → fedTo k (ownerOfReading customers r) ≡ false → loneOf (wordsOf w (stepReading w r)) k ≡ loneOf w k
-      read (reading.Refused n) g = refl
-      read (reading.Whole e) g = tried e g (eqb (refusal w e) 0) refl
+      whole : first ≡ 0 → fedTo k (ownerNamed customers (customerNamed (eventIn b))) ≡ false
+      whole unmet = rw (none-met-bytes w b unmet) at f
+
+      tried : (t : Bool) → eqb first 0 ≡ t → loneOf (wordsOf w (cond t (perform w (eventIn b)) (refused first))) k ≡ loneOf w k
+      tried true unmet =
+          let zero = eqb-true first 0 unmet in
+          other-perform (eventIn b) (whole zero) (none-met-event w b zero)
+      tried false some = refl

@@ -3,6 +3,7 @@
 -- laws of tests, lists and words, which other crates' proofs cite too
 pub mod Tests
 pub mod Lists
+pub mod Table
 pub mod Words
 pub mod Records
 pub mod State
@@ -19,9 +20,8 @@ pub mod WellFormed
 pub mod Fresh
 pub mod Isolation
 pub mod Histories
--- refusals: the first condition met, the exits of a kind's function, and answers told from their numbers
-pub mod Turned
-pub mod Exits
+-- refusals: the first condition met, and answers told from their numbers
+pub mod Refused
 pub mod Numbers
 -- the three demands
 pub mod Demands

@@ -1,13 +1,18 @@
 -- Laws of `any`, `all`, `count`, `keep`, `allBelow` and `each`: at the next element of a list, as a loop meets it, and at the next number.
 -- Assumes nothing.
-use mathlib.Core.Bool.{Bool, true, false, _&&_, _||_, and-assoc, or-assoc, or-false, and-true}
+use mathlib.Core.Bool.{Bool, true, false, _&&_, _||_, and-assoc, or-assoc, or-false, and-true, cond}
 use mathlib.Core.List.{List, [], _∷_, _++_, map}
 use mathlib.Core.Path.{_≡_, ap, sym, _∙_}
 use Prim.Native.Nat.{ℕ, _+_, _≤_, _<_}
 use native.Mathlib.Numerals.{add-one}
 use lib.ListN.{length, getD, take, drop, drop-of-length-le, length-map}
 use lib.Seq.{drop-cons, take-suc}
-use Rattle.definitions.specs.Lists.{bit, any, all, count, allBelow, each}
+use Rattle.definitions.specs.Lists.{any, all, count, allBelow, each, keep}
+use native.Mathlib.Omega.{arith}
+
+abbrev pub bit : Bool → ℕ
+bit true = 1
+bit false = 0
 
 -- the length of an array of records, which the logic says of their machine values
 pub length-mapped : {A B : Type 0} (f : A → B) (xs : List A) {n : ℕ} → length (map f xs) ≡ n → length xs ≡ n
@@ -38,13 +43,13 @@ module _ {A : Type 0} where
     unfolding all
     all-end xs i h = rw (drop-of-length-le xs h)
 
-    pub count-next : (xs : List A) (i : ℕ) (d : A) → i < length xs → count p (drop i xs) ≡ bit (p (getD xs i d)) + count p (drop (i + 1) xs)
-    unfolding count
-    count-next xs i d h = rw (drop-next xs i d h)
-
-    pub count-end : (xs : List A) (i : ℕ) → length xs ≤ i → count p (drop i xs) ≡ 0
-    unfolding count
-    count-end xs i h = rw (drop-of-length-le xs h)
+    pub count-cons : (x : A) (xs : List A) → count p (x ∷ xs) ≡ bit (p x) + count p xs
+    unfolding count keep
+    count-cons x xs = go (p x)
+      where
+        go : (t : Bool) → length (cond t (x ∷ keep p xs) (keep p xs)) ≡ bit t + length (keep p xs)
+        go true = omega arith
+        go false = omega arith
 
     -- a loop that looks for an element: what it found so far, or what is left
     pub found-next : (found : Bool) (xs : List A) (i : ℕ) (d : A) (now : Bool) → i < length xs → now ≡ p (getD xs i d)

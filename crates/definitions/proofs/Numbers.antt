@@ -1,41 +1,24 @@
--- An answer can be told from its number: refusals are numbered 1 to 12, and neither ok nor a verdict has such a number.
+-- An answer can be told from its number: refusals have the numbers of the table, and neither ok nor a verdict has such a number.
 -- Assumes nothing.
-use mathlib.Core.Bool.{Bool, true, false, cond, and-eq-true-iff}
-use mathlib.Core.List.{List, [], _∷_}
+use mathlib.Core.Bool.{false, cond}
+use mathlib.Core.List.{List}
 use mathlib.Core.Path.{_≡_, refl, ap, sym, _∙_}
 use Prim.Native.Nat.{ℕ, _≤_}
 use native.Mathlib.Omega.{arith}
-use lib.Dec.{eqb, leb}
-use borrow.Author.Tests.{leb-true, ne-eqb}
+use lib.Dec.{eqb}
+use borrow.Author.Tests.{ne-eqb}
 use Rattle.definitions.specs.declared.Verdict.the-variants as verdict
 use Rattle.definitions.specs.declared.Answer.{Answer}
 use Rattle.definitions.specs.declared.Answer.the-variants as answer
-use Rattle.definitions.specs.Lists.{all}
 use Rattle.definitions.specs.Answers.{answerNumber}
-use Rattle.definitions.specs.Refusals.{firstMet}
-use Rattle.definitions.specs.Gate.{conditions, stepAnswer}
-use Rattle.definitions.proofs.Turned.{refused}
+use Rattle.definitions.specs.Gate.{conditions, eventAnswer}
+use Rattle.definitions.proofs.Refused.{refused, numbered-conditions}
+use Rattle.definitions.proofs.Table.{lastNumber, first-most}
 
--- what is found first in a table is one of its numbers, or 0
-first-most : (cs : List (ℕ × Bool)) → all (λ (c : ℕ × Bool). leb (c .0) 12) cs ≡ true → firstMet cs ≤ 12
-unfolding firstMet all
-first-most [] most = omega arith
-first-most (c ∷ cs) most =
-    let parts = and-eq-true-iff (leb (c .0) 12) (all (λ (d : ℕ × Bool). leb (d .0) 12) cs) .0 most in
-    go (c .1) (leb-true (c .0) 12 (parts .0)) (first-most cs (parts .1))
-  where
-    go : (t : Bool) → c .0 ≤ 12 → firstMet cs ≤ 12 → cond t (c .0) (firstMet cs) ≤ 12
-    go true here rest = here
-    go false here rest = rest
-
-conditions-most : (w b : List ℕ) → all (λ (c : ℕ × Bool). leb (c .0) 12) (conditions w b) ≡ true
-unfolding conditions all
-conditions-most w b = refl
-
-pub refused-1-to-12 : (w b : List ℕ) (n : ℕ) → stepAnswer w b ≡ answer.Refused n → (1 ≤ n) × (n ≤ 12)
-refused-1-to-12 w b n e =
+pub refused-in-table : (w b : List ℕ) (n : ℕ) → eventAnswer w b ≡ answer.Refused n → (1 ≤ n) × (n ≤ lastNumber)
+refused-in-table w b n e =
     let t = refused w b n e in
-    let most = first-most (conditions w b) (conditions-most w b) in
+    let most = first-most (conditions w b) (numbered-conditions w b) in
     (above n (t .some), omega (arith, t .first))
   where
     above : (m : ℕ) → (m ≡ 0 → ⊥) → 1 ≤ m
@@ -54,7 +37,7 @@ numbered n =
     (cond (eqb n 110) (answer.Verdict verdict.Warn10)
     (cond (eqb n 100) (answer.Verdict verdict.Accept) (answer.Refused n)))))))))
 
-told : (a : Answer) → ((n : ℕ) → a ≡ answer.Refused n → (1 ≤ n) × (n ≤ 12)) → numbered (answerNumber a) ≡ a
+told : (a : Answer) → ((n : ℕ) → a ≡ answer.Refused n → (1 ≤ n) × (n ≤ lastNumber)) → numbered (answerNumber a) ≡ a
 told answer.Ok h = refl
 told (answer.Verdict verdict.RejectS) h = refl
 told (answer.Verdict verdict.RejectV) h = refl
@@ -71,6 +54,6 @@ told (answer.Refused n) h =
     rw (other 0 (λ e. omega arith), other 219 (λ e. omega arith), other 222 (λ e. omega arith), other 217 (λ e. omega arith), other 223 (λ e. omega arith), other 216 (λ e. omega arith), other 130 (λ e. omega arith), other 110 (λ e. omega arith), other 100 (λ e. omega arith))
 
 -- answers with one number are one answer, over any words and any bytes
-pub number-tells : (w b v c : List ℕ) → answerNumber (stepAnswer w b) ≡ answerNumber (stepAnswer v c) → stepAnswer w b ≡ stepAnswer v c
+pub number-tells : (w b v c : List ℕ) → answerNumber (eventAnswer w b) ≡ answerNumber (eventAnswer v c) → eventAnswer w b ≡ eventAnswer v c
 number-tells w b v c e =
-    sym (told (stepAnswer w b) (refused-1-to-12 w b)) ∙ ap numbered e ∙ told (stepAnswer v c) (refused-1-to-12 v c)
+    sym (told (eventAnswer w b) (refused-in-table w b)) ∙ ap numbered e ∙ told (eventAnswer v c) (refused-in-table v c)

@@ -1,55 +1,63 @@
--- What an event that meets no condition has passed, test by test; and that a refusal is the first condition that is met.
+-- The table of an event in a state: what an event that meets none of its conditions has passed, condition by condition, each by its number.
 -- Assumes nothing.
-use mathlib.Core.Bool.{Bool, true, false}
-use mathlib.Core.List.{List, _∷_}
-use mathlib.Core.Path.{_≡_, refl}
-use Prim.Native.Nat.{ℕ, suc}
-use native.Mathlib.Omega.{arith}
+use mathlib.Core.Bool.{Bool, true, false, cond, not}
+use mathlib.Core.List.{List, [], _∷_}
+use mathlib.Core.Path.{_≡_, refl, ap}
+use Prim.Native.Nat.{ℕ}
+use lib.Dec.{eqb}
 use Rattle.definitions.specs.declared.Event.{Event}
-use Rattle.definitions.specs.State.{headerOf}
-use Rattle.definitions.specs.Refusals.{names, codes, prices, earlier, numberTaken, noOpenRow, matchVolume, deskFull, firstMet}
-use Rattle.definitions.specs.Gate.{viewOf, unsound, refusal}
+use Rattle.definitions.specs.declared.Event.the-variants as event
+use Rattle.definitions.specs.Lists.{all, firstMet}
+use Rattle.definitions.specs.State.{headerOf, stateFits}
+use Rattle.definitions.specs.Events.{eventIn, bytesConditions}
+use Rattle.definitions.specs.Refusals.{eventConditions}
+use Rattle.definitions.specs.Gate.{viewOf, recordsSound, conditions, perform, refusedOr, outcome}
+use Rattle.definitions.proofs.Table.{Numbered, met, unmet, first-append, none-append}
 
-pub none-first : (n : ℕ) (t : Bool) (cs : List (ℕ × Bool)) → firstMet ((suc n, t) ∷ cs) ≡ 0 → t ≡ false
-unfolding firstMet
-none-first n true cs e = absurd (omega arith)
-none-first n false cs e = refl
+abbrev pub table : List ℕ → Event → List (ℕ × Bool)
+table w e = eventConditions (headerOf w) ((8, not (recordsSound w e)) ∷ []) (viewOf w e) e
 
-pub none-rest : (n : ℕ) (t : Bool) (cs : List (ℕ × Bool)) → firstMet ((suc n, t) ∷ cs) ≡ 0 → firstMet cs ≡ 0
-unfolding firstMet
-none-rest n true cs e = absurd (omega arith)
-none-rest n false cs e = e
+abbrev pub Passed : List ℕ → Event → Type 0
+Passed w e = firstMet (table w e) ≡ 0
 
-pub record Passed (w : List ℕ) (e : Event) : Type 0 where
-  pub names : names (headerOf w) e ≡ false
-  pub codes : codes e ≡ false
-  pub prices : prices e ≡ false
-  pub earlier : earlier (headerOf w) e ≡ false
-  pub sound : unsound w e ≡ false
-  pub numberTaken : numberTaken (viewOf w e) e ≡ false
-  pub noOpenRow : noOpenRow (viewOf w e) e ≡ false
-  pub matchVolume : matchVolume (viewOf w e) e ≡ false
-  pub deskFull : deskFull (viewOf w e) e ≡ false
+pub numbered-bytes : (b : List ℕ) → Numbered (bytesConditions b)
+unfolding all
+numbered-bytes b = refl
 
-pub passed : (w : List ℕ) (e : Event) → refusal w e ≡ 0 → Passed w e
-unfolding refusal
-passed w e none =
-    let r5 = none-rest 3 _ _ none in
-    let r6 = none-rest 4 _ _ r5 in
-    let r7 = none-rest 5 _ _ r6 in
-    let r8 = none-rest 6 _ _ r7 in
-    let r9 = none-rest 7 _ _ r8 in
-    let r10 = none-rest 8 _ _ r9 in
-    let r11 = none-rest 9 _ _ r10 in
-    let r12 = none-rest 10 _ _ r11 in
-    record {
-      names = none-first 3 _ _ none;
-      codes = none-first 4 _ _ r5;
-      prices = none-first 5 _ _ r6;
-      earlier = none-first 6 _ _ r7;
-      sound = none-first 7 _ _ r8;
-      numberTaken = none-first 8 _ _ r9;
-      noOpenRow = none-first 9 _ _ r10;
-      matchVolume = none-first 10 _ _ r11;
-      deskFull = none-first 11 _ _ r12;
-    }
+pub numbered-state : (w b : List ℕ) → Numbered ((1, not (stateFits w)) ∷ bytesConditions b)
+unfolding all
+numbered-state w b = refl
+
+pub numbered-table : (w : List ℕ) (e : Event) → Numbered (table w e)
+unfolding all
+numbered-table w (event.Clock t) = refl
+numbered-table w (event.Session s) = refl
+numbered-table w (event.Setup x) = refl
+numbered-table w (event.Prices x) = refl
+numbered-table w (event.Order k x) = refl
+numbered-table w (event.Cancel k x) = refl
+numbered-table w (event.Match k x) = refl
+
+-- the condition with a number is not met
+pub passed : (n : ℕ) (w : List ℕ) (e : Event) → Passed w e → met n (table w e) ≡ false
+passed n w e p = unmet n (table w e) (numbered-table w e) p
+
+module _ (w b : List ℕ) where
+  -- where no condition of the whole table is met, the bytes are an event and it has passed
+  pub none-met-bytes : firstMet (conditions w b) ≡ 0 → firstMet (bytesConditions b) ≡ 0
+  unfolding conditions all
+  none-met-bytes none =
+      let rest = none-append ((1, not (stateFits w)) ∷ bytesConditions b) (table w (eventIn b)) (numbered-state w b) none in
+      none-append ((1, not (stateFits w)) ∷ []) (bytesConditions b) refl (rest .0) .1
+
+  pub none-met-event : firstMet (conditions w b) ≡ 0 → Passed w (eventIn b)
+  unfolding conditions
+  none-met-event none =
+      none-append ((1, not (stateFits w)) ∷ bytesConditions b) (table w (eventIn b)) (numbered-state w b) none .1
+
+  -- in a state that fits: conditions 2 and 3, and then the event's table
+  pub outcome-read : stateFits w ≡ true
+      → outcome w b ≡ refusedOr (cond (eqb (firstMet (bytesConditions b)) 0) (firstMet (table w (eventIn b))) (firstMet (bytesConditions b))) (perform w (eventIn b))
+  unfolding outcome conditions firstMet
+  outcome-read fits =
+      rw fits (ap (λ (n : ℕ). refusedOr n (perform w (eventIn b))) (first-append (bytesConditions b) (table w (eventIn b)) (numbered-bytes b)))

@@ -10,9 +10,10 @@ use lib.Seq.{drop-cons, take-at, drop-at}
 use Rattle.definitions.specs.declared.Security.{Security}
 use Rattle.definitions.specs.declared.Row.{Row}
 use Rattle.definitions.specs.declared.Desk.{Desk}
-use Rattle.definitions.specs.State.{rowSize, securityOf, securityWords, rowOf, rowWords, rowsOf, rowsWords, deskOf, deskWords}
+use Rattle.definitions.specs.State.{rowSize, securityOf, securityWords, rowOf, rowWords, rowsOf, rowsWords, deskOf, deskWords, securitySize, deskSize, countersSize}
+use Rattle.definitions.specs.Codes.{deskRows}
 
-pub length-security : (s : Security) → length (securityWords s) ≡ 13
+pub length-security : (s : Security) → length (securityWords s) ≡ securitySize
 unfolding securityWords
 length-security s = refl
 
@@ -20,7 +21,7 @@ pub security-read : (s : Security) → securityOf (securityWords s) ≡ s
 unfolding securityOf securityWords
 security-read s = refl
 
-pub length-row : (r : Row) → length (rowWords r) ≡ 9
+pub length-row : (r : Row) → length (rowWords r) ≡ rowSize
 unfolding rowWords
 length-row r = refl
 
@@ -28,7 +29,7 @@ pub row-read : (r : Row) → rowOf (rowWords r) ≡ r
 unfolding rowOf rowWords
 row-read r = refl
 
-pub length-rows-words : (rs : List Row) → length (rowsWords rs) ≡ 9 * length rs
+pub length-rows-words : (rs : List Row) → length (rowsWords rs) ≡ rowSize * length rs
 unfolding rowsWords
 length-rows-words [] = refl
 length-rows-words (r ∷ rs) = length-append (rowWords r) (rowsWords rs) ∙ omega (arith, length-row r, length-rows-words rs)
@@ -38,19 +39,19 @@ unfolding rowsOf rowsWords
 rows-read [] = refl
 rows-read (r ∷ rs) =
     ap₂ (λ (x : Row) (xs : List Row). x ∷ xs)
-    (ap rowOf (take-at (rowWords r) (rowsWords rs) 9 (length-row r)) ∙ row-read r)
-    (ap (rowsOf (length rs)) (drop-at (rowWords r) (rowsWords rs) 9 (length-row r)) ∙ rows-read rs)
+    (ap rowOf (take-at (rowWords r) (rowsWords rs) rowSize (length-row r)) ∙ row-read r)
+    (ap (rowsOf (length rs)) (drop-at (rowWords r) (rowsWords rs) rowSize (length-row r)) ∙ rows-read rs)
 
 pub length-rows : (n : ℕ) (w : List ℕ) → length (rowsOf n w) ≡ n
 unfolding rowsOf
 length-rows zero w = refl
 length-rows (suc n) w = ap suc (length-rows n (drop rowSize w))
 
-pub length-desk : (d : Desk) → length (d .rows) ≡ 32 → length (deskWords d) ≡ 291
+pub length-desk : (d : Desk) → length (d .rows) ≡ deskRows → length (deskWords d) ≡ deskSize
 unfolding deskWords
 length-desk d h = omega (arith, length-rows-words (d .rows))
 
-pub desk-read : (d : Desk) → length (d .rows) ≡ 32 → deskOf (deskWords d) ≡ d
+pub desk-read : (d : Desk) → length (d .rows) ≡ deskRows → deskOf (deskWords d) ≡ d
 unfolding deskOf deskWords
 desk-read d h =
     ap {B = Desk} (λ (rs : List Row). record { accepted = d .accepted; warned = d .warned; rejected = d .rejected; rows = rs })
@@ -67,22 +68,22 @@ spelled-out i (suc n) w h =
     rw (drop-cons w i 0 (omega arith), add-suc i n, ← (suc-add i n))
     (ap (λ (v : List ℕ). getD w i 0 ∷ v) (spelled-out (suc i) n w (omega arith)))
 
-pub row-write : (w : List ℕ) → length w ≡ 9 → rowWords (rowOf w) ≡ w
+pub row-write : (w : List ℕ) → length w ≡ rowSize → rowWords (rowOf w) ≡ w
 unfolding rowWords rowOf
 row-write w h =
-    ap (λ (v : List ℕ). spelled 0 9 w ++ v) (sym (drop-of-length-le w {i = 9} (omega arith))) ∙ spelled-out 0 9 w (omega arith)
+    ap (λ (v : List ℕ). spelled 0 rowSize w ++ v) (sym (drop-of-length-le w {i = rowSize} (omega arith))) ∙ spelled-out 0 rowSize w (omega arith)
 
-pub rows-write : (n : ℕ) (w : List ℕ) → length w ≡ 9 * n → rowsWords (rowsOf n w) ≡ w
+pub rows-write : (n : ℕ) (w : List ℕ) → length w ≡ rowSize * n → rowsWords (rowsOf n w) ≡ w
 unfolding rowsWords rowsOf
 rows-write zero [] h = refl
 rows-write zero (x ∷ w) h = absurd (omega arith)
 rows-write (suc n) w h =
     ap₂ (λ (a b : List ℕ). a ++ b)
-    (row-write (take 9 w) (length-take 9 w ∙ omega arith))
-    (rows-write n (drop 9 w) (length-drop 9 w ∙ omega arith))
-    ∙ take-append-drop 9 w
+    (row-write (take rowSize w) (length-take rowSize w ∙ omega arith))
+    (rows-write n (drop rowSize w) (length-drop rowSize w ∙ omega arith))
+    ∙ take-append-drop rowSize w
 
-pub desk-write : (w : List ℕ) → length w ≡ 291 → deskWords (deskOf w) ≡ w
+pub desk-write : (w : List ℕ) → length w ≡ deskSize → deskWords (deskOf w) ≡ w
 unfolding deskWords deskOf
 desk-write w h =
-    ap (λ (v : List ℕ). spelled 0 3 w ++ v) (rows-write 32 (drop 3 w) (length-drop 3 w ∙ omega arith)) ∙ spelled-out 0 3 w (omega arith)
+    ap (λ (v : List ℕ). spelled 0 countersSize w ++ v) (rows-write deskRows (drop countersSize w) (length-drop countersSize w ∙ omega arith)) ∙ spelled-out 0 countersSize w (omega arith)

@@ -11,10 +11,11 @@ use lib.ListN.{length, replicate, length-append, length-replicate, length-map}
 use lib.Seq.{set-at, append-snoc}
 use borrow.Author.Tests.{eqb-true, eqb-false}
 use Rattle.definitions.specs.declared.Row.{Row}
-use Rattle.definitions.specs.Lists.{bit, any, all, count, keep}
+use Rattle.definitions.specs.Lists.{any, all, count, keep}
 use Rattle.definitions.specs.Sound.{marked, numbered, markedFirst, numbersDiffer}
 use Rattle.definitions.specs.Desks.{freeRow, closeUp, edited, addedLast}
 use Rattle.definitions.proofs.Tests.{and-parts, and-whole, and-second, or-parts, or-second, or-cases, not-grows}
+use Rattle.definitions.proofs.Lists.{bit, count-cons}
 
 module _ {A : Type 0} where
   module _ (p : A → Bool) where
@@ -54,39 +55,35 @@ module _ {A : Type 0} where
     any-replicate (suc n) a h = rw h (any-replicate n a h)
 
     pub length-keep : (xs : List A) → length (keep p xs) ≡ count p xs
-    unfolding keep count
-    length-keep [] = refl
-    length-keep (x ∷ xs) = go (p x) (length-keep xs)
-      where
-        go : (t : Bool) → length (keep p xs) ≡ count p xs → length (cond t (x ∷ keep p xs) (keep p xs)) ≡ bit t + count p xs
-        go true below = omega arith
-        go false below = omega arith
+    unfolding count
+    length-keep xs = refl
+
+    count-none : count p [] ≡ 0
+    unfolding count keep
+    count-none = refl
 
     pub count-le : (xs : List A) → count p xs ≤ length xs
-    unfolding count
-    count-le [] = omega arith
-    count-le (x ∷ xs) = go (p x) (count-le xs)
+    count-le [] = omega (arith, count-none)
+    count-le (x ∷ xs) = rw (count-cons p x xs) (go (p x) (count-le xs))
       where
         go : (t : Bool) → count p xs ≤ length xs → bit t + count p xs ≤ suc (length xs)
         go true below = omega arith
         go false below = omega arith
 
     pub count-all : (xs : List A) → all p xs ≡ true → count p xs ≡ length xs
-    unfolding all count
-    count-all [] h = refl
+    unfolding all
+    count-all [] h = count-none
     count-all (x ∷ xs) h =
         let parts = and-parts (p x) (all p xs) h in
-        rw (parts .0) (omega (arith, count-all xs (parts .1)))
+        rw (count-cons p x xs, parts .0) (omega (arith, count-all xs (parts .1)))
 
     pub count-append : (xs ys : List A) → count p (xs ++ ys) ≡ count p xs + count p ys
-    unfolding count
-    count-append [] ys = omega arith
-    count-append (x ∷ xs) ys = omega (arith, count-append xs ys)
+    count-append [] ys = omega (arith, count-none)
+    count-append (x ∷ xs) ys = omega (arith, count-cons p x xs, count-cons p x (xs ++ ys), count-append xs ys)
 
     pub count-replicate : (n : ℕ) (a : A) → p a ≡ false → count p (replicate n a) ≡ 0
-    unfolding count
-    count-replicate zero a h = refl
-    count-replicate (suc n) a h = rw h (omega (arith, count-replicate n a h))
+    count-replicate zero a h = count-none
+    count-replicate (suc n) a h = rw (count-cons p a (replicate n a), h) (omega (arith, count-replicate n a h))
 
   module _ (p q : A → Bool) where
     pub all-weaken : ((x : A) → p x ≡ true → q x ≡ true) → (xs : List A) → all p xs ≡ true → all q xs ≡ true
@@ -144,11 +141,11 @@ module _ {A : Type 0} where
             rw (h x (parts .0)) (ap (λ (b : Bool). q x || b) (any-map-same xs (parts .1)))
 
         pub count-map-same : (xs : List A) → all s xs ≡ true → count p (map f xs) ≡ count q xs
-        unfolding count all
-        count-map-same [] e = refl
+        unfolding all
+        count-map-same [] e = count-none p ∙ sym (count-none q)
         count-map-same (x ∷ xs) e =
             let parts = and-parts (s x) (all s xs) e in
-            rw (h x (parts .0)) (ap (λ (n : ℕ). bit (q x) + n) (count-map-same xs (parts .1)))
+            rw (count-cons p (f x) (map f xs), count-cons q x xs, h x (parts .0)) (ap (λ (n : ℕ). bit (q x) + n) (count-map-same xs (parts .1)))
 
 -- the length of closed-up rows
 pub length-closeUp : (rows : List Row) → length (closeUp rows) ≡ length rows

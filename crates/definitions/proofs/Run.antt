@@ -1,4 +1,4 @@
--- A history run on the definitions. To unfold `answersOf` is to unfold all that a step needs, so that a case computes.
+-- A history run on the definitions. To unfold `answersOf` is to unfold all that an event needs, so that a case computes.
 use mathlib.Core.Bool.{true}
 use mathlib.Core.List.{List, [], _∷_}
 use Prim.Native.Nat.{ℕ}
@@ -10,17 +10,16 @@ use Rattle.definitions.specs.Sound as sound
 use Rattle.definitions.specs.Events as events
 use Rattle.definitions.specs.Desks as desks
 use Rattle.definitions.specs.Rules as rules
-use Rattle.definitions.specs.Refusals as refusals
 use Rattle.definitions.specs.Gate as gate
 
 unfoldable pub answersOf : ℕ → ℕ → List (List ℕ) → List Answer
-unfolding legal bandOfPrice lastBand positionOf lists.any lists.all lists.count lists.keep lists.allBelow lists.each lists.part lists.put lists.repeat state.securityOf state.securityWords state.rowOf state.rowWords state.rowsOf state.rowsWords state.deskOf state.deskWords state.securityAt state.deskAt state.putSecurity state.putDesk state.stateFits state.freshMarket state.fresh sound.soundSecurity sound.soundRow sound.markedFirst sound.numbersDiffer sound.soundDesk events.lengthOf events.eventOf events.readEvent desks.closeUp desks.edited desks.swept desks.cancelled desks.matched desks.added desks.counted desks.ordered rules.ruleS rules.ruleV rules.ruleQ rules.ownMatch rules.ruleW rules.recalled rules.ruleP rules.warn30 rules.warn10 rules.verdictOf refusals.names refusals.codes refusals.prices refusals.earlier refusals.numberTaken refusals.noOpenRow refusals.matchVolume refusals.deskFull refusals.firstMet gate.viewOf gate.allSound gate.unsound gate.refusal gate.afterSetup gate.afterPrices gate.withoutProjected gate.sessionMarket gate.afterSession gate.afterClock gate.perform gate.stepEvent gate.step gate.answersTo
+unfolding legal bandOfPrice lastBand positionOf lists.any lists.all lists.count lists.keep lists.firstMet lists.allBelow lists.each lists.part lists.put lists.repeat state.headerOf state.securityOf state.securityWords state.rowOf state.rowWords state.rowsOf state.rowsWords state.deskOf state.deskWords state.securityAt state.deskAt state.putSecurity state.putDesk state.stateFits state.freshMarket state.fresh sound.soundSecurity sound.soundRow sound.markedFirst sound.numbersDiffer sound.soundDesk events.lengthOf events.eventOf desks.closeUp desks.edited desks.changed desks.added desks.counted desks.ordered rules.ruleS rules.ruleV rules.ruleQ rules.tradesWithOwn rules.ruleW rules.reenters rules.ruleP rules.warn30 rules.warn10 rules.verdictOf gate.conditions gate.afterSetup gate.afterPrices gate.withoutProjected gate.sessionMarket gate.afterSession gate.perform gate.outcome gate.answersTo
 answersOf customers securities history = gate.answersTo (λ _. true) (state.fresh customers securities) history
 
 -- one event handed to the gate over any words
 unfoldable pub answerOn : List ℕ → List ℕ → Answer
 unfolding answersOf
-answerOn w b = gate.stepAnswer w b
+answerOn w b = gate.eventAnswer w b
 
 -- the words after a history, over any words and from a fresh state
 unfoldable pub wordsFrom : List ℕ → List (List ℕ) → List ℕ

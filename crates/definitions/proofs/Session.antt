@@ -1,4 +1,4 @@
--- A session change, record by record: every projected price absent, every desk swept, nothing else.
+-- A session change, record by record: every projected price absent, every desk changed, nothing else.
 -- Assumes nothing.
 use mathlib.Core.List.{List}
 use mathlib.Core.Logic.{⊎-elim}
@@ -11,12 +11,13 @@ use Rattle.definitions.specs.declared.Security.{Security}
 use Rattle.definitions.specs.declared.Desk.{Desk}
 use Rattle.definitions.specs.Lists.{each}
 use Rattle.definitions.specs.State.{headerOf, securityAt, deskAt, putSecurity, putDesk}
-use Rattle.definitions.specs.Desks.{swept}
+use Rattle.definitions.specs.Desks.{sessionRow, changed}
 use Rattle.definitions.specs.Lone.{marketWords}
-use Rattle.definitions.specs.Gate.{clearProjectedAt, sweepDeskAt, withoutProjected}
+use Rattle.definitions.specs.Gate.{changeSecurity, changeDesk, withoutProjected}
 use Rattle.definitions.proofs.State as state
 use Rattle.definitions.proofs.State.{Sized}
-use Rattle.definitions.proofs.SoundDesk.{length-swept}
+use Rattle.definitions.proofs.SoundDesk.{length-changed}
+use Rattle.definitions.specs.Codes.{deskRows}
 
 -- v is w with the projected prices of the first n securities absent
 pub record Cleared (customers securities n : ℕ) (w v : List ℕ) : Type 0 where
@@ -25,9 +26,9 @@ pub record Cleared (customers securities n : ℕ) (w v : List ℕ) : Type 0 wher
   pub cleared : (s : ℕ) → s < n → securityAt v s ≡ withoutProjected (securityAt w s)
   pub left : (s : ℕ) → n ≤ s → s < securities → securityAt v s ≡ securityAt w s
   pub desks : (k : ℕ) → deskAt v k ≡ deskAt w k
-  pub market : marketWords v ≡ each n clearProjectedAt (marketWords w)
+  pub market : marketWords v ≡ each n (changeSecurity withoutProjected) (marketWords w)
 
-pub clears : {customers securities : ℕ} (n : ℕ) (w : List ℕ) → Sized customers securities w → n ≤ securities → Cleared customers securities n w (each n clearProjectedAt w)
+pub clears : {customers securities : ℕ} (n : ℕ) (w : List ℕ) → Sized customers securities w → n ≤ securities → Cleared customers securities n w (each n (changeSecurity withoutProjected) w)
 unfolding each
 clears zero w sized h =
     record {
@@ -41,7 +42,7 @@ clears zero w sized h =
 clears {customers} {securities} (suc n) w sized h = next (clears n w sized (omega arith))
   where
     v : List ℕ
-    v = each n clearProjectedAt w
+    v = each n (changeSecurity withoutProjected) w
 
     x : Security
     x = withoutProjected (securityAt v n)
@@ -63,21 +64,21 @@ clears {customers} {securities} (suc n) w sized h = next (clears n w sized (omeg
           market =
               state.market-put-security v (c .sized) n h x
               ∙ ap (λ (y : Security). putSecurity (marketWords v) n (withoutProjected y)) (sym (state.security-market v (c .sized) n h))
-              ∙ ap (clearProjectedAt n) (c .market);
+              ∙ ap ((changeSecurity withoutProjected) n) (c .market);
         }
 
--- v is w with the first n desks swept
-pub record Swept (customers securities n : ℕ) (w v : List ℕ) : Type 0 where
+-- v is w with the first n desks changed
+pub record DesksChanged (customers securities n : ℕ) (w v : List ℕ) : Type 0 where
   pub sized : Sized customers securities v
   pub header : headerOf v ≡ headerOf w
-  pub done : (k : ℕ) → k < n → deskAt v k ≡ swept (deskAt w k)
+  pub done : (k : ℕ) → k < n → deskAt v k ≡ changed sessionRow (deskAt w k)
   pub left : (k : ℕ) → n ≤ k → deskAt v k ≡ deskAt w k
   pub securities-kept : (s : ℕ) → s < securities → securityAt v s ≡ securityAt w s
   pub market : marketWords v ≡ marketWords w
 
-pub sweeps : {customers securities : ℕ} (n : ℕ) (w : List ℕ) → Sized customers securities w → n ≤ customers → Swept customers securities n w (each n sweepDeskAt w)
+pub changes : {customers securities : ℕ} (n : ℕ) (w : List ℕ) → Sized customers securities w → n ≤ customers → DesksChanged customers securities n w (each n (changeDesk (changed sessionRow)) w)
 unfolding each
-sweeps zero w sized h =
+changes zero w sized h =
     record {
       sized = sized;
       header = refl;
@@ -86,24 +87,24 @@ sweeps zero w sized h =
       securities-kept = λ s below. refl;
       market = refl;
     }
-sweeps {customers} {securities} (suc n) w sized h = next (sweeps n w sized (omega arith))
+changes {customers} {securities} (suc n) w sized h = next (changes n w sized (omega arith))
   where
     v : List ℕ
-    v = each n sweepDeskAt w
+    v = each n (changeDesk (changed sessionRow)) w
 
     d : Desk
-    d = swept (deskAt v n)
+    d = changed sessionRow (deskAt v n)
 
-    next : Swept customers securities n w v → Swept customers securities (suc n) w (putDesk v n d)
+    next : DesksChanged customers securities n w v → DesksChanged customers securities (suc n) w (putDesk v n d)
     next c =
-        let whole : length (d .rows) ≡ 32 = length-swept (deskAt v n) ∙ state.length-desk-rows v (c .sized) n in
+        let whole : length (d .rows) ≡ deskRows = length-changed sessionRow (deskAt v n) ∙ state.length-desk-rows v (c .sized) n in
         record {
           sized = state.sized-put-desk v (c .sized) n h d whole;
           header = state.header-put-desk v (c .sized) n h d whole ∙ c .header;
           done =
               λ k less.
               ⊎-elim
-              (λ (e : k ≡ n). rw e (state.desk-put-same v (c .sized) n h d whole ∙ ap swept (c .left n (omega arith))))
+              (λ (e : k ≡ n). rw e (state.desk-put-same v (c .sized) n h d whole ∙ ap (changed sessionRow) (c .left n (omega arith))))
               (λ below. state.desk-put-below v (c .sized) n h d whole k below ∙ c .done k below)
               (eq-or-lt-of-le (le-of-suc-le-suc less));
           left = λ k from. state.desk-put-above v (c .sized) n h d whole k from ∙ c .left k (omega arith);

@@ -8,35 +8,27 @@ use native.Mathlib.Omega.{arith}
 use lib.Dec.{leb, ltb, eqb}
 use lib.ListN.{length, replicate, length-set, length-map}
 use borrow.Author.Tests.{ltb-false, leb-false, eqb-false, not-true, not-false, lt-ltb, le-leb}
-use Rattle.definitions.specs.declared.Header.{Header}
-use Rattle.definitions.specs.declared.Security.{Security}
+use Rattle.definitions.specs.declared.MarketView.{MarketView}
+use Rattle.definitions.specs.declared.Counter.{Counter}
+use Rattle.definitions.specs.declared.Counter.the-variants as counts
 use Rattle.definitions.specs.declared.Row.{Row}
 use Rattle.definitions.specs.declared.Desk.{Desk}
 use Rattle.definitions.specs.declared.Order.{Order}
 use Rattle.definitions.specs.declared.Verdict.{Verdict}
 use Rattle.definitions.specs.declared.Verdict.the-variants as verdict
-use Rattle.definitions.specs.declared.Event.the-variants as event
-use Rattle.definitions.specs.Codes.{foreignBoard, sell, atc, mp, dma, deskRows, mostVolume}
+use Rattle.definitions.specs.Codes.{foreignBoard, sell, atc, mp, dma, isLimit, deskRows, maxVolume}
 use Rattle.definitions.specs.Lists.{any, all, count, keep}
 use Rattle.definitions.specs.Sound.{marked, numbered, pricedAs, soundRow, markedFirst, numbersDiffer, soundDesk}
-use Rattle.definitions.specs.Desks.{freeRow, freshDesk, live, closeUp, edited, expiredRow, sweptRow, cancelledRow, matchedRow, swept, cancelled, matched, rowOfOrder, addedLast, added, rejects, counted, takesRow, ordered}
-use Rattle.definitions.specs.Rules.{isLimit, valueOf, ruleS, ruleV, verdictOf}
-use Rattle.definitions.specs.Refusals.{names, codes, prices, liveWith, numberTaken, deskFull}
+use Rattle.definitions.specs.Desks.{freeRow, freshDesk, openOrInMinute, closeUp, edited, expiredRow, changed, rowOfOrder, addedLast, added, counterOf, countedAs, isRejected, counted, takesRow, ordered}
+use Rattle.definitions.specs.Rules.{View, valueOf, ruleS, ruleV, verdictOf}
+use Rattle.definitions.specs.Refusals.{badCode, holdsNumber, numberTaken, deskFull}
 use Rattle.definitions.proofs.Tests.{and-parts, and-whole, and-second, or-parts, joined-parts, joined-whole}
 use Rattle.definitions.proofs.Rows.{KeepsNumbers, all-append, all-replicate, all-kept, all-keep, all-weaken, all-map, any-keep, any-map-same, count-map-same, count-le, length-edited, first-closed, differ-closed, differ-keep, differ-map, differ-last, added-closed}
-use Rattle.definitions.proofs.SoundRow.{true-marked, free-row, later-row, swept-sound, swept-kept, expired-sound, expired-kept, expired-live, expired-numbered, cancelled-sound, cancelled-kept, matched-sound, matched-kept}
+use Rattle.definitions.proofs.SoundRow.{true-marked, free-row, later-row, expired-sound, expired-kept, expired-openOrInMinute, expired-numbered}
 
-pub length-swept : (d : Desk) → length (swept d .rows) ≡ length (d .rows)
-unfolding swept
-length-swept d = length-edited sweptRow (d .rows)
-
-pub length-cancelled : (number clock : ℕ) (d : Desk) → length (cancelled number clock d .rows) ≡ length (d .rows)
-unfolding cancelled
-length-cancelled number clock d = length-edited (cancelledRow number clock) (d .rows)
-
-pub length-matched : (number volume : ℕ) (d : Desk) → length (matched number volume d .rows) ≡ length (d .rows)
-unfolding matched
-length-matched number volume d = length-edited (matchedRow number volume) (d .rows)
+pub length-changed : (f : Row → Row) (d : Desk) → length (changed f d .rows) ≡ length (d .rows)
+unfolding changed
+length-changed f d = length-edited f (d .rows)
 
 length-added : (clock : ℕ) (o : Order) (d : Desk) → length (added clock o d .rows) ≡ length (d .rows)
 unfolding added
@@ -46,8 +38,13 @@ length-added clock o d =
 
 pub length-ordered : (v : Verdict) (clock : ℕ) (o : Order) (d : Desk) → length (ordered v clock o d .rows) ≡ length (d .rows)
 unfolding ordered counted
-length-ordered v clock o d = go (takesRow v o)
+length-ordered v clock o d = same (counterOf v) (cond (takesRow v o) (added clock o d) d) ∙ go (takesRow v o)
   where
+    same : (t : Counter) (x : Desk) → length (countedAs t x .rows) ≡ length (x .rows)
+    same counts.Accepted x = refl
+    same counts.Warned x = refl
+    same counts.Rejected x = refl
+
     go : (t : Bool) → length (cond t (added clock o d) d .rows) ≡ length (d .rows)
     go true = length-added clock o d
     go false = refl
@@ -105,26 +102,11 @@ sound-later S clock later d h e =
       differ = p .differ;
     })
 
-pub sound-swept : (S clock : ℕ) (d : Desk) → soundDesk S clock d ≡ true → soundDesk S clock (swept d) ≡ true
-unfolding swept
-sound-swept S clock d e =
-    true-desk S clock (swept d) (sound-edited S clock sweptRow (swept-sound S clock) swept-kept (d .rows) (desk-true S clock d e))
-
-pub sound-cancelled : (S clock number : ℕ) (d : Desk) → soundDesk S clock d ≡ true → soundDesk S clock (cancelled number clock d) ≡ true
-unfolding cancelled
-sound-cancelled S clock number d e =
-    true-desk S clock
-    (cancelled number clock d)
-    (sound-edited S clock (cancelledRow number clock) (cancelled-sound S clock number) (cancelled-kept number clock) (d .rows) (desk-true S clock d e))
-
--- a row whose volume is at most the match's goes, so what is left is at least 1 at any volume: the premise on it is not needed
-pub sound-matched : (S clock number volume : ℕ) (d : Desk) → soundDesk S clock d ≡ true → eqb volume 0 ≡ false
-    → soundDesk S clock (matched number volume d) ≡ true
-unfolding matched
-sound-matched S clock number volume d e _ =
-    true-desk S clock
-    (matched number volume d)
-    (sound-edited S clock (matchedRow number volume) (matched-sound S clock number volume) (matched-kept number volume) (d .rows) (desk-true S clock d e))
+-- a change of rows that keeps them sound and their numbers keeps a desk sound
+pub sound-changed : (S clock : ℕ) (f : Row → Row) → ((r : Row) → soundRow S clock r ≡ true → soundRow S clock (f r) ≡ true) → KeepsNumbers f
+    → (d : Desk) → soundDesk S clock d ≡ true → soundDesk S clock (changed f d) ≡ true
+unfolding changed
+sound-changed S clock f sound kept d e = true-desk S clock (changed f d) (sound-edited S clock f sound kept (d .rows) (desk-true S clock d e))
 
 pub sound-fresh-desk : (S clock : ℕ) → soundDesk S clock freshDesk ≡ true
 unfolding all numbersDiffer
@@ -141,11 +123,11 @@ below-mp n most other =
     omega (arith, ltb-false mp n most)
 
 -- a verdict that is no reject says that rule V does not apply
-no-rule-v : (session clock : ℕ) (s : Security) (d : Desk) (o : Order) → rejects (verdictOf session clock s d o) ≡ false → ruleV s o ≡ false
+no-rule-v : (v : View) (o : Order) → isRejected (counterOf (verdictOf v o)) ≡ false → ruleV (v .market) o ≡ false
 unfolding verdictOf
-no-rule-v session clock s d o e = go (ruleS session s o) (ruleV s o) _ e
+no-rule-v v o e = go (ruleS (v .market) o) (ruleV (v .market) o) _ e
   where
-    go : (a b : Bool) (rest : Verdict) → rejects (cond a verdict.RejectS (cond b verdict.RejectV rest)) ≡ false → b ≡ false
+    go : (a b : Bool) (rest : Verdict) → isRejected (counterOf (cond a verdict.RejectS (cond b verdict.RejectV rest))) ≡ false → b ≡ false
     go true b rest k = absurd (true≢false k)
     go false true rest k = absurd (true≢false k)
     go false false rest k = refl
@@ -156,32 +138,32 @@ record Fits (securities : ℕ) (o : Order) : Type 0 where
   security : leb securities (o .security) ≡ false
   board : ltb foreignBoard (o .board) ≡ false
   side : ltb sell (o .side) ≡ false
-  most-type : ltb mp (o .ordtype) ≡ false
-  price : not (pricedAs (o .ordtype) (o .price)) ≡ false
+  most-type : ltb mp (o .«order_type») ≡ false
+  price : not (pricedAs (o .«order_type») (o .price)) ≡ false
   volume : eqb (o .volume) 0 ≡ false
-  most-volume : ltb mostVolume (o .volume) ≡ false
+  most-volume : ltb maxVolume (o .volume) ≡ false
 
-order-fits : (h : Header) (s : Security) (k : ℕ) (o : Order) → names h (event.Order k o) ≡ false → codes (event.Order k o) ≡ false
-    → prices (event.Order k o) ≡ false → ruleV s o ≡ false → Fits (h .securities) o
-unfolding names codes prices ruleV
-order-fits h s k o n c p v =
+order-fits : (securities : ℕ) (m : MarketView) (o : Order) → leb securities (o .security) ≡ false → badCode o ≡ false
+    → not (pricedAs (o .«order_type») (o .price)) ≡ false → ruleV m o ≡ false → Fits securities o
+unfolding ruleV
+order-fits securities m o n c p v =
     let board = ltb foreignBoard (o .board) in
     let side = ltb sell (o .side) in
-    let ordtype = ltb mp (o .ordtype) in
+    let type = ltb mp (o .«order_type») in
     let channel = ltb dma (o .channel) in
-    let c₃ = or-parts (board || side || ordtype || channel) (eqb (o .number) 0) c in
-    let c₂ = or-parts (board || side || ordtype) channel (c₃ .0) in
-    let c₁ = or-parts (board || side) ordtype (c₂ .0) in
+    let c₃ = or-parts (board || side || type || channel) (eqb (o .number) 0) c in
+    let c₂ = or-parts (board || side || type) channel (c₃ .0) in
+    let c₁ = or-parts (board || side) type (c₂ .0) in
     let c₀ = or-parts board side (c₁ .0) in
-    let none = eqb (o .volume) 0 in
-    let many = ltb mostVolume (o .volume) in
-    let broken = not (eqb (o .volume % s .lot) 0) in
-    let v₂ = or-parts (none || many || broken) (isLimit (o .ordtype) && ltb 50_000_000_000 (valueOf o)) v in
-    let v₁ = or-parts (none || many) broken (v₂ .0) in
-    let v₀ = or-parts none many (v₁ .0) in
+    let empty = eqb (o .volume) 0 in
+    let many = ltb maxVolume (o .volume) in
+    let broken = not (eqb (o .volume % m .security .terms .lot) 0) in
+    let v₂ = or-parts (empty || many || broken) (isLimit (o .«order_type») && ltb 50_000_000_000 (valueOf o)) v in
+    let v₁ = or-parts (empty || many) broken (v₂ .0) in
+    let v₀ = or-parts empty many (v₁ .0) in
     record {
       number = c₃ .1;
-      security = or-parts (leb (h .customers) k) (leb (h .securities) (o .security)) n .1;
+      security = n;
       board = c₀ .0;
       side = c₀ .1;
       most-type = c₁ .1;
@@ -191,7 +173,7 @@ order-fits h s k o n c p v =
     }
 
 -- such an order, not MP, makes a sound row
-order-row : (S clock : ℕ) (o : Order) → Fits S o → eqb (o .ordtype) mp ≡ false → soundRow S clock (rowOfOrder o) ≡ true
+order-row : (S clock : ℕ) (o : Order) → Fits S o → eqb (o .«order_type») mp ≡ false → soundRow S clock (rowOfOrder o) ≡ true
 order-row S clock o f other =
     true-marked S clock
     (rowOfOrder o)
@@ -201,10 +183,10 @@ order-row S clock o f other =
       security = lt-ltb (o .security) S (leb-false S (o .security) (f .security));
       board = le-leb (o .board) foreignBoard (ltb-false foreignBoard (o .board) (f .board));
       side = le-leb (o .side) sell (ltb-false sell (o .side) (f .side));
-      ordtype = le-leb (o .ordtype) atc (below-mp (o .ordtype) (f .most-type) other);
-      price = not-false (pricedAs (o .ordtype) (o .price)) (f .price);
+      «order_type» = le-leb (o .«order_type») atc (below-mp (o .«order_type») (f .most-type) other);
+      price = not-false (pricedAs (o .«order_type») (o .price)) (f .price);
       least = le-leb 1 (o .volume) (above-zero (o .volume) (f .volume));
-      most = le-leb (o .volume) mostVolume (ltb-false mostVolume (o .volume) (f .most-volume));
+      most = le-leb (o .volume) maxVolume (ltb-false maxVolume (o .volume) (f .most-volume));
     })
 
 -- sound marked rows whose numbers differ, a sound marked row with a new number behind them, and then free rows
@@ -227,23 +209,23 @@ module _ (S clock : ℕ) (front : List Row) (r : Row) where
 
 -- the rows of a sound desk as an order meets them: those cancelled longer ago are free
 module _ (S clock : ℕ) (rows : List Row) (h : SoundRows S clock rows) where
-  -- a number that no live row has is no marked row's
-  number-new : (number : ℕ) → any (liveWith clock number) rows ≡ false → any (numbered number) (keep marked (map (expiredRow clock) rows)) ≡ false
+  -- a number that no row holds, open or in its minute, is no marked row's
+  number-new : (number : ℕ) → any (holdsNumber clock number) rows ≡ false → any (numbered number) (keep marked (map (expiredRow clock) rows)) ≡ false
   number-new number free =
       any-keep (numbered number) marked (λ x e. rw e) (map (expiredRow clock) rows)
-      ∙ any-map-same (numbered number) (liveWith clock number) (expiredRow clock) (soundRow S clock) (expired-numbered S clock number) rows (h .each)
+      ∙ any-map-same (numbered number) (holdsNumber clock number) (expiredRow clock) (soundRow S clock) (expired-numbered S clock number) rows (h .each)
       ∙ free
 
-  -- where the live rows are not all, a free row is left
-  place-left : length rows ≡ deskRows → eqb (count (live clock) rows) deskRows ≡ false
+  -- where not all rows are open or in their minute, a free row is left
+  place-left : length rows ≡ deskRows → eqb (count (openOrInMinute clock) rows) deskRows ≡ false
       → 0 < length (map (expiredRow clock) rows) - count marked (map (expiredRow clock) rows)
   place-left size full =
-      let same = count-map-same marked (live clock) (expiredRow clock) (soundRow S clock) (expired-live S clock) rows (h .each) in
-      let less : ¬ (count (live clock) rows ≡ deskRows) = eqb-false (count (live clock) rows) deskRows full in
-      omega (arith, count-le (live clock) rows, length-map rows (expiredRow clock))
+      let same = count-map-same marked (openOrInMinute clock) (expiredRow clock) (soundRow S clock) (expired-openOrInMinute S clock) rows (h .each) in
+      let less : ¬ (count (openOrInMinute clock) rows ≡ deskRows) = eqb-false (count (openOrInMinute clock) rows) deskRows full in
+      omega (arith, count-le (openOrInMinute clock) rows, length-map rows (expiredRow clock))
 
-  sound-added : (o : Order) → length rows ≡ deskRows → soundRow S clock (rowOfOrder o) ≡ true → any (liveWith clock (o .number)) rows ≡ false
-      → eqb (count (live clock) rows) deskRows ≡ false → SoundRows S clock (addedLast (rowOfOrder o) (edited (expiredRow clock) rows))
+  sound-added : (o : Order) → length rows ≡ deskRows → soundRow S clock (rowOfOrder o) ≡ true → any (holdsNumber clock (o .number)) rows ≡ false
+      → eqb (count (openOrInMinute clock) rows) deskRows ≡ false → SoundRows S clock (addedLast (rowOfOrder o) (edited (expiredRow clock) rows))
   unfolding edited closeUp
   sound-added o size e free full =
       let expired = map (expiredRow clock) rows in
@@ -259,32 +241,37 @@ module _ (S clock : ℕ) (rows : List Row) (h : SoundRows S clock rows) where
       refl
       (number-new (o .number) free)
 
-pub sound-ordered : (h : Header) (s : Security) (d : Desk) (k : ℕ) (o : Order) → length (d .rows) ≡ 32
-    → soundDesk (h .securities) (h .clock) d ≡ true
-    → names h (event.Order k o) ≡ false
-    → codes (event.Order k o) ≡ false
-    → prices (event.Order k o) ≡ false
-    → numberTaken (record { header = h; security = s; desk = d }) (event.Order k o) ≡ false
-    → deskFull (record { header = h; security = s; desk = d }) (event.Order k o) ≡ false
-    → soundDesk (h .securities) (h .clock) (ordered (verdictOf (h .session) (h .clock) s d o) (h .clock) o d) ≡ true
-unfolding ordered counted added numberTaken deskFull
-sound-ordered h s d k o size e n c p free full =
-    true-desk (h .securities) (h .clock) (ordered v (h .clock) o d) (go (takesRow v o) refl)
+pub sound-ordered : (securities : ℕ) (m : MarketView) (d : Desk) (o : Order) → length (d .rows) ≡ deskRows
+    → soundDesk securities (m .clock) d ≡ true
+    → leb securities (o .security) ≡ false
+    → badCode o ≡ false
+    → not (pricedAs (o .«order_type») (o .price)) ≡ false
+    → numberTaken (record { market = m; desk = d }) o ≡ false
+    → deskFull (record { market = m; desk = d }) o ≡ false
+    → soundDesk securities (m .clock) (ordered (verdictOf (record { market = m; desk = d }) o) (m .clock) o d) ≡ true
+unfolding ordered counted added
+sound-ordered securities m d o size e n c p free full =
+    true-desk securities (m .clock) (ordered v (m .clock) o d) (counted-rows (counterOf v) (cond (takesRow v o) (added (m .clock) o d) d) (go (takesRow v o) refl))
   where
     v : Verdict
-    v = verdictOf (h .session) (h .clock) s d o
+    v = verdictOf (record { market = m; desk = d }) o
 
-    sound : SoundRows (h .securities) (h .clock) (d .rows)
-    sound = desk-true (h .securities) (h .clock) d e
+    sound : SoundRows securities (m .clock) (d .rows)
+    sound = desk-true securities (m .clock) d e
 
-    row : takesRow v o ≡ true → soundRow (h .securities) (h .clock) (rowOfOrder o) ≡ true
-    row takes =
-        let taken = and-parts (not (rejects v)) (not (eqb (o .ordtype) mp)) takes in
-        let rule = no-rule-v (h .session) (h .clock) s d o (not-true (rejects v) (taken .0)) in
-        order-row (h .securities) (h .clock) o (order-fits h s k o n c p rule) (not-true (eqb (o .ordtype) mp) (taken .1))
+    counted-rows : (t : Counter) (x : Desk) → SoundRows securities (m .clock) (x .rows) → SoundRows securities (m .clock) (countedAs t x .rows)
+    counted-rows counts.Accepted x h = h
+    counted-rows counts.Warned x h = h
+    counted-rows counts.Rejected x h = h
 
-    go : (t : Bool) → takesRow v o ≡ t → SoundRows (h .securities) (h .clock) (cond t (added (h .clock) o d) d .rows)
+    new-row : takesRow v o ≡ true → soundRow securities (m .clock) (rowOfOrder o) ≡ true
+    new-row takes =
+        let taken = and-parts (not (isRejected (counterOf v))) (not (eqb (o .«order_type») mp)) takes in
+        let rule = no-rule-v (record { market = m; desk = d }) o (not-true (isRejected (counterOf v)) (taken .0)) in
+        order-row securities (m .clock) o (order-fits securities m o n c p rule) (not-true (eqb (o .«order_type») mp) (taken .1))
+
+    go : (t : Bool) → takesRow v o ≡ t → SoundRows securities (m .clock) (cond t (added (m .clock) o d) d .rows)
     go true takes =
-        sound-added (h .securities) (h .clock) (d .rows) sound o size (row takes) free
-        (and-second (takesRow v o) (eqb (count (live (h .clock)) (d .rows)) deskRows) full takes)
+        sound-added securities (m .clock) (d .rows) sound o size (new-row takes) free
+        (and-second (takesRow v o) (eqb (count (openOrInMinute (m .clock)) (d .rows)) deskRows) full takes)
     go false takes = sound

@@ -4,17 +4,19 @@ use mathlib.Core.Bool.{Bool, true, false, cond, _&&_, not, false≢true}
 use mathlib.Core.List.{List, [], _∷_}
 use mathlib.Core.Logic.{_⊎_, inl, inr, ⊎-elim}
 use mathlib.Core.Path.{_≡_, refl, ap}
-use Prim.Native.Nat.{ℕ, _+_, _-_, _≤_}
+use Prim.Native.Nat.{ℕ, _-_, _≤_}
 use native.Mathlib.Omega.{arith}
 use lib.Dec.{leb, ltb, eqb}
 use borrow.Author.Tests.{leb-true, leb-false, eqb-true, not-true, le-leb}
 use Rattle.definitions.specs.declared.Row.{Row}
-use Rattle.definitions.specs.Codes.{freeMark, openMark, cancelledMark, foreignBoard, sell, limit, atc, remembered, mostVolume}
+use Rattle.definitions.specs.Codes.{freeMark, openMark, cancelledMark, foreignBoard, sell, limit, atc, maxVolume, isAuction}
 use Rattle.definitions.specs.Sound.{marked, allZero, pricedAs, openOrCancelled, soundMarked, soundRow, numbered}
-use Rattle.definitions.specs.Desks.{freeRow, recent, isOpen, live, openWith, expiredRow, sweptRow, markedCancelled, cancelledRow, withVolume, matchedRow}
-use Rattle.definitions.specs.Refusals.{liveWith}
+use Rattle.definitions.specs.Desks.{freeRow, cancelledInMinute, isOpen, openOrInMinute, openWith, expiredRow, sessionRow, markedCancelled, cancelledRow, withVolume, matchedRow, inMinute}
+use Rattle.definitions.specs.Refusals.{holdsNumber}
 use Rattle.definitions.proofs.Tests.{never, and-parts, and-whole, and-same, or-first, or-second, or-cases, joined-parts, joined-whole}
 use Rattle.definitions.proofs.Rows.{KeepsNumbers}
+use Rattle.definitions.specs.Lists.{all}
+use Rattle.definitions.specs.State.{rowWords}
 
 -- a sound marked row, with a name for each part of the test
 pub record SoundMarked (securities clock : ℕ) (r : Row) : Type 0 where
@@ -23,10 +25,10 @@ pub record SoundMarked (securities clock : ℕ) (r : Row) : Type 0 where
   pub security : ltb (r .security) securities ≡ true
   pub board : leb (r .board) foreignBoard ≡ true
   pub side : leb (r .side) sell ≡ true
-  pub ordtype : leb (r .ordtype) atc ≡ true
-  pub price : pricedAs (r .ordtype) (r .price) ≡ true
+  pub «order_type» : leb (r .«order_type») atc ≡ true
+  pub price : pricedAs (r .«order_type») (r .price) ≡ true
   pub least : leb 1 (r .volume) ≡ true
-  pub most : leb (r .volume) mostVolume ≡ true
+  pub most : leb (r .volume) maxVolume ≡ true
 
 -- the tests of a marked row behind the first
 abbrev laterTests : ℕ → Row → List Bool
@@ -35,27 +37,15 @@ laterTests securities r =
     ∷ ltb (r .security) securities
     ∷ leb (r .board) foreignBoard
     ∷ leb (r .side) sell
-    ∷ leb (r .ordtype) atc
-    ∷ pricedAs (r .ordtype) (r .price)
+    ∷ leb (r .«order_type») atc
+    ∷ pricedAs (r .«order_type») (r .price)
     ∷ leb 1 (r .volume)
-    ∷ leb (r .volume) mostVolume
-    ∷ []
-
--- and of a free row
-abbrev otherZeros : Row → List Bool
-otherZeros r =
-    eqb (r .number) 0
-    ∷ eqb (r .security) 0
-    ∷ eqb (r .board) 0
-    ∷ eqb (r .side) 0
-    ∷ eqb (r .ordtype) 0
-    ∷ eqb (r .price) 0
-    ∷ eqb (r .volume) 0
-    ∷ eqb (r .«cancel_time») 0
+    ∷ leb (r .volume) maxVolume
     ∷ []
 
 zero-mark : (r : Row) → allZero r ≡ true → eqb (r .mark) freeMark ≡ true
-zero-mark r e = joined-parts (eqb (r .mark) freeMark) (otherZeros r) e .0
+unfolding all rowWords
+zero-mark r e = and-parts (eqb (r .mark) freeMark) _ e .0
 
 module _ (S clock : ℕ) where
   marked-true : (r : Row) → soundMarked S clock r ≡ true → SoundMarked S clock r
@@ -67,7 +57,7 @@ module _ (S clock : ℕ) where
         security = p .1 .1 .0;
         board = p .1 .1 .1 .0;
         side = p .1 .1 .1 .1 .0;
-        ordtype = p .1 .1 .1 .1 .1 .0;
+        «order_type» = p .1 .1 .1 .1 .1 .0;
         price = p .1 .1 .1 .1 .1 .1 .0;
         least = p .1 .1 .1 .1 .1 .1 .1 .0;
         most = p .1 .1 .1 .1 .1 .1 .1 .1 .0;
@@ -78,7 +68,7 @@ module _ (S clock : ℕ) where
   true-marked r h =
       or-second (allZero r)
       (joined-whole (openOrCancelled clock r) (laterTests S r)
-      (h .state, (h .number, (h .security, (h .board, (h .side, (h .ordtype, (h .price, (h .least, (h .most, tt))))))))))
+      (h .state, (h .number, (h .security, (h .board, (h .side, (h .«order_type», (h .price, (h .least, (h .most, tt))))))))))
 
   pub row-cases : (r : Row) → soundRow S clock r ≡ true → (allZero r ≡ true) ⊎ SoundMarked S clock r
   unfolding soundRow
@@ -88,7 +78,7 @@ module _ (S clock : ℕ) where
   row-marked r e m = ⊎-elim (λ z. never (zero-mark r z) (not-true (eqb (r .mark) freeMark) m)) (λ h. h) (row-cases r e)
 
   pub free-row : soundRow S clock freeRow ≡ true
-  unfolding soundRow
+  unfolding soundRow all rowWords
   free-row = refl
 
 -- the two states of a marked row
@@ -99,14 +89,14 @@ record Open (r : Row) : Type 0 where
 record Cancelled (clock : ℕ) (r : Row) : Type 0 where
   mark : eqb (r .mark) cancelledMark ≡ true
   time : leb (r .«cancel_time») clock ≡ true
-  ordtype : eqb (r .ordtype) limit ≡ true
+  «order_type» : eqb (r .«order_type») limit ≡ true
 
 module _ (clock : ℕ) (r : Row) where
   abbrev whenOpen : Bool
   whenOpen = eqb (r .mark) openMark && eqb (r .«cancel_time») 0
 
   abbrev whenCancelled : Bool
-  whenCancelled = eqb (r .mark) cancelledMark && leb (r .«cancel_time») clock && eqb (r .ordtype) limit
+  whenCancelled = eqb (r .mark) cancelledMark && leb (r .«cancel_time») clock && eqb (r .«order_type») limit
 
   state-cases : openOrCancelled clock r ≡ true → Open r ⊎ Cancelled clock r
   state-cases e = ⊎-elim (λ o. inl (opened o)) (λ c. inr (cancelled c)) (or-cases whenOpen whenCancelled e)
@@ -118,14 +108,14 @@ module _ (clock : ℕ) (r : Row) where
 
       cancelled : whenCancelled ≡ true → Cancelled clock r
       cancelled c =
-          let p = joined-parts (eqb (r .mark) cancelledMark) (leb (r .«cancel_time») clock ∷ eqb (r .ordtype) limit ∷ []) c in
-          record { mark = p .0; time = p .1 .0; ordtype = p .1 .1 .0 }
+          let p = joined-parts (eqb (r .mark) cancelledMark) (leb (r .«cancel_time») clock ∷ eqb (r .«order_type») limit ∷ []) c in
+          record { mark = p .0; time = p .1 .0; «order_type» = p .1 .1 .0 }
 
   open-state : Open r → openOrCancelled clock r ≡ true
   open-state o = or-first whenCancelled (and-whole (o .mark) (o .time))
 
   cancelled-state : Cancelled clock r → openOrCancelled clock r ≡ true
-  cancelled-state c = or-second whenOpen (and-whole (and-whole (c .mark) (c .time)) (c .ordtype))
+  cancelled-state c = or-second whenOpen (and-whole (and-whole (c .mark) (c .time)) (c .«order_type»))
 
 -- a cancel time that is at most the clock is at most a later clock
 later-state : (clock later : ℕ) (r : Row) → clock ≤ later → openOrCancelled clock r ≡ true → openOrCancelled later r ≡ true
@@ -133,7 +123,7 @@ later-state clock later r h e =
     ⊎-elim (open-state later r)
     (λ c.
     let time = le-leb (r .«cancel_time») later (omega (arith, leb-true (r .«cancel_time») clock (c .time))) in
-    cancelled-state later r (record { mark = c .mark; time = time; ordtype = c .ordtype }))
+    cancelled-state later r (record { mark = c .mark; time = time; «order_type» = c .«order_type» }))
     (state-cases clock r e)
 
 pub later-row : (S clock later : ℕ) → clock ≤ later → (r : Row) → soundRow S clock r ≡ true → soundRow S later r ≡ true
@@ -148,7 +138,7 @@ later-row S clock later h r e =
       security = m .security;
       board = m .board;
       side = m .side;
-      ordtype = m .ordtype;
+      «order_type» = m .«order_type»;
       price = m .price;
       least = m .least;
       most = m .most;
@@ -168,14 +158,14 @@ module _ (S clock : ℕ) where
   abbrev Sound : Row → Type 0
   Sound x = soundRow S clock x ≡ true
 
-  pub swept-sound : (r : Row) → soundRow S clock r ≡ true → soundRow S clock (sweptRow r) ≡ true
-  swept-sound r e = either Sound (eqb (r .ordtype) limit) r freeRow (λ _. e) (λ _. free-row S clock)
+  pub session-sound : (r : Row) → soundRow S clock r ≡ true → soundRow S clock (sessionRow r) ≡ true
+  session-sound r e = either Sound (isAuction (r .«order_type»)) freeRow r (λ _. free-row S clock) (λ _. e)
 
   pub expired-sound : (r : Row) → soundRow S clock r ≡ true → soundRow S clock (expiredRow clock r) ≡ true
   expired-sound r e =
-      either Sound (eqb (r .mark) cancelledMark && not (recent clock r)) freeRow r (λ _. free-row S clock) (λ _. e)
+      either Sound (eqb (r .mark) cancelledMark && not (cancelledInMinute clock r)) freeRow r (λ _. free-row S clock) (λ _. e)
 
-  markedCancelled-sound : (r : Row) → SoundMarked S clock r → eqb (r .ordtype) limit ≡ true → soundRow S clock (markedCancelled clock r) ≡ true
+  markedCancelled-sound : (r : Row) → SoundMarked S clock r → eqb (r .«order_type») limit ≡ true → soundRow S clock (markedCancelled clock r) ≡ true
   markedCancelled-sound r h l =
       true-marked S clock
       (markedCancelled clock r)
@@ -185,7 +175,7 @@ module _ (S clock : ℕ) where
         security = h .security;
         board = h .board;
         side = h .side;
-        ordtype = h .ordtype;
+        «order_type» = h .«order_type»;
         price = h .price;
         least = h .least;
         most = h .most;
@@ -193,9 +183,9 @@ module _ (S clock : ℕ) where
 
   pub cancelled-sound : (number : ℕ) (r : Row) → soundRow S clock r ≡ true → soundRow S clock (cancelledRow number clock r) ≡ true
   cancelled-sound number r e =
-      either Sound (openWith number r) (cond (eqb (r .ordtype) limit) (markedCancelled clock r) freeRow) r
+      either Sound (openWith number r) (cond (eqb (r .«order_type») limit) (markedCancelled clock r) freeRow) r
       (λ opened.
-      either Sound (eqb (r .ordtype) limit) (markedCancelled clock r) freeRow
+      either Sound (eqb (r .«order_type») limit) (markedCancelled clock r) freeRow
       (markedCancelled-sound r (row-marked S clock r e (open-marked number r opened)))
       (λ _. free-row S clock))
       (λ _. e)
@@ -211,10 +201,10 @@ module _ (S clock : ℕ) where
         security = h .security;
         board = h .board;
         side = h .side;
-        ordtype = h .ordtype;
+        «order_type» = h .«order_type»;
         price = h .price;
         least = le-leb 1 (r .volume - volume) (omega (arith, leb-false (r .volume) volume more));
-        most = le-leb (r .volume - volume) mostVolume (omega (arith, leb-true (r .volume) mostVolume (h .most)));
+        most = le-leb (r .volume - volume) maxVolume (omega (arith, leb-true (r .volume) maxVolume (h .most)));
       })
 
   pub matched-sound : (number volume : ℕ) (r : Row) → soundRow S clock r ≡ true → soundRow S clock (matchedRow number volume r) ≡ true
@@ -236,17 +226,17 @@ gone r e = absurd (false≢true e)
 stays : (r : Row) → Kept r r
 stays r e = (e, refl)
 
-pub swept-kept : KeepsNumbers sweptRow
-swept-kept r = either (Kept r) (eqb (r .ordtype) limit) r freeRow (λ _. stays r) (λ _. gone r)
+pub session-kept : KeepsNumbers sessionRow
+session-kept r = either (Kept r) (isAuction (r .«order_type»)) freeRow r (λ _. gone r) (λ _. stays r)
 
 pub expired-kept : (clock : ℕ) → KeepsNumbers (expiredRow clock)
-expired-kept clock r = either (Kept r) (eqb (r .mark) cancelledMark && not (recent clock r)) freeRow r (λ _. gone r) (λ _. stays r)
+expired-kept clock r = either (Kept r) (eqb (r .mark) cancelledMark && not (cancelledInMinute clock r)) freeRow r (λ _. gone r) (λ _. stays r)
 
 pub cancelled-kept : (number clock : ℕ) → KeepsNumbers (cancelledRow number clock)
 cancelled-kept number clock r =
-    either (Kept r) (openWith number r) (cond (eqb (r .ordtype) limit) (markedCancelled clock r) freeRow) r
+    either (Kept r) (openWith number r) (cond (eqb (r .«order_type») limit) (markedCancelled clock r) freeRow) r
     (λ opened.
-    either (Kept r) (eqb (r .ordtype) limit) (markedCancelled clock r) freeRow
+    either (Kept r) (eqb (r .«order_type») limit) (markedCancelled clock r) freeRow
     (λ _ _. (open-marked number r opened, refl))
     (λ _. gone r))
     (λ _. stays r)
@@ -269,26 +259,26 @@ mark-cases S clock r e =
     (state-cases clock r (m .state))))
     (row-cases S clock r e)
 
--- the live rows are those that are marked when the rows cancelled longer ago are gone
-pub expired-live : (S clock : ℕ) (r : Row) → soundRow S clock r ≡ true → marked (expiredRow clock r) ≡ live clock r
-expired-live S clock r e = ⊎-elim at-free (⊎-elim at-open at-cancelled) (mark-cases S clock r e)
+-- the rows that are open or in their minute are those that are marked when the rows cancelled longer ago are gone
+pub expired-openOrInMinute : (S clock : ℕ) (r : Row) → soundRow S clock r ≡ true → marked (expiredRow clock r) ≡ openOrInMinute clock r
+expired-openOrInMinute S clock r e = ⊎-elim at-free (⊎-elim at-open at-cancelled) (mark-cases S clock r e)
   where
-    at-free : r .mark ≡ freeMark → marked (expiredRow clock r) ≡ live clock r
+    at-free : r .mark ≡ freeMark → marked (expiredRow clock r) ≡ openOrInMinute clock r
     at-free m = rw m
 
-    at-open : r .mark ≡ openMark → marked (expiredRow clock r) ≡ live clock r
+    at-open : r .mark ≡ openMark → marked (expiredRow clock r) ≡ openOrInMinute clock r
     at-open m = rw m
 
-    at-cancelled : r .mark ≡ cancelledMark → marked (expiredRow clock r) ≡ live clock r
+    at-cancelled : r .mark ≡ cancelledMark → marked (expiredRow clock r) ≡ openOrInMinute clock r
     at-cancelled m =
-        rw (ap (λ (n : ℕ). eqb n cancelledMark) m, ap (λ (n : ℕ). eqb n openMark) m) (go (leb clock (r .«cancel_time» + remembered)))
+        rw (ap (λ (n : ℕ). eqb n cancelledMark) m, ap (λ (n : ℕ). eqb n openMark) m) (go (inMinute clock (r .«cancel_time»)))
       where
         go : (t : Bool) → marked (cond (not t) freeRow r) ≡ t
         go true = rw m
         go false = refl
 
-pub expired-numbered : (S clock number : ℕ) (r : Row) → soundRow S clock r ≡ true → numbered number (expiredRow clock r) ≡ liveWith clock number r
+pub expired-numbered : (S clock number : ℕ) (r : Row) → soundRow S clock r ≡ true → numbered number (expiredRow clock r) ≡ holdsNumber clock number r
 expired-numbered S clock number r e =
-    and-same (marked (expiredRow clock r)) (eqb (expiredRow clock r .number) number) (live clock r) (eqb (r .number) number)
-    (expired-live S clock r e)
+    and-same (marked (expiredRow clock r)) (eqb (expiredRow clock r .number) number) (openOrInMinute clock r) (eqb (r .number) number)
+    (expired-openOrInMinute S clock r e)
     (λ m. ap (λ (n : ℕ). eqb n number) (expired-kept clock r m .1))

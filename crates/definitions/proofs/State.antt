@@ -5,24 +5,19 @@ use mathlib.Core.Path.{_≡_, ap, sym, _∙_}
 use Prim.Native.Nat.{ℕ, _+_, _≤_, _<_}
 use native.Mathlib.Omega.{arith}
 use lib.ListN.{length, take}
-use lib.Seq.{getD-take}
 use Rattle.definitions.specs.declared.Header.{Header}
 use Rattle.definitions.specs.declared.Security.{Security}
 use Rattle.definitions.specs.declared.Desk.{Desk}
 use Rattle.definitions.specs.Lists.{part, put}
-use Rattle.definitions.specs.State.{headerOf, securityPlace, deskPlace, stateSize, securityOf, securityWords, deskOf, deskWords, securityAt, deskAt, putSecurity, putDesk}
+use Rattle.definitions.specs.State.{headerOf, securityPlace, deskPlace, stateSize, securityOf, securityWords, deskOf, deskWords, securityAt, deskAt, putSecurity, putDesk, headerSize, securitySize, deskSize, headerIn}
 use Rattle.definitions.specs.Lone.{marketWords, customerWords}
 use Rattle.definitions.proofs.Words as words
 use Rattle.definitions.proofs.Records.{length-security, security-read, length-desk, desk-read, desk-write, length-rows}
+use Rattle.definitions.specs.Codes.{deskRows}
 
-pub header-put : (w : List ℕ) (place : ℕ) (xs : List ℕ) → place + length xs ≤ length w → 4 ≤ place → headerOf (put w place xs) ≡ headerOf w
-header-put w place xs fits h =
-    rw (
-      words.getD-put-before w place xs fits 0 (omega arith),
-      words.getD-put-before w place xs fits 1 (omega arith),
-      words.getD-put-before w place xs fits 2 (omega arith),
-      words.getD-put-before w place xs fits 3 (omega arith),
-    )
+pub header-put : (w : List ℕ) (place : ℕ) (xs : List ℕ) → place + length xs ≤ length w → headerSize ≤ place → headerOf (put w place xs) ≡ headerOf w
+unfolding headerOf
+header-put w place xs fits h = ap headerIn (words.part-put-before w place xs fits 0 headerSize h)
 
 -- a state of C customers and S securities
 pub record Sized (customers securities : ℕ) (w : List ℕ) : Type 0 where
@@ -31,7 +26,7 @@ pub record Sized (customers securities : ℕ) (w : List ℕ) : Type 0 where
 
 module _ {customers securities : ℕ} (w : List ℕ) (sized : Sized customers securities w) where
   -- a desk stands where the count of securities says
-  desk-at : (k : ℕ) → deskAt w k ≡ deskOf (part w (deskPlace securities k) 291)
+  desk-at : (k : ℕ) → deskAt w k ≡ deskOf (part w (deskPlace securities k) deskSize)
   unfolding deskAt
   desk-at k = rw (sized .counted)
 
@@ -44,27 +39,21 @@ module _ {customers securities : ℕ} (w : List ℕ) (sized : Sized customers se
   market-is = rw (sized .counted)
 
   pub header-market : headerOf (marketWords w) ≡ headerOf w
-  header-market =
-      rw (
-        market-is,
-        getD-take (securityPlace securities) w 0 0 (omega arith),
-        getD-take (securityPlace securities) w 1 0 (omega arith),
-        getD-take (securityPlace securities) w 2 0 (omega arith),
-        getD-take (securityPlace securities) w 3 0 (omega arith),
-      )
+  unfolding headerOf
+  header-market = rw market-is (ap headerIn (words.part-take w (securityPlace securities) 0 headerSize (omega arith)))
 
   pub security-market : (s : ℕ) → s < securities → securityAt (marketWords w) s ≡ securityAt w s
   unfolding securityAt
-  security-market s h = rw market-is (ap securityOf (words.part-take w (securityPlace securities) (securityPlace s) 13 (omega arith)))
+  security-market s h = rw market-is (ap securityOf (words.part-take w (securityPlace securities) (securityPlace s) securitySize (omega arith)))
 
-  pub length-desk-rows : (k : ℕ) → length (deskAt w k .rows) ≡ 32
+  pub length-desk-rows : (k : ℕ) → length (deskAt w k .rows) ≡ deskRows
   unfolding deskAt deskOf
-  length-desk-rows k = length-rows 32 _
+  length-desk-rows k = length-rows deskRows _
 
   pub customer-words : (k : ℕ) → k < customers → customerWords w k ≡ deskWords (deskAt w k)
   unfolding customerWords deskAt
   customer-words k h =
-      sym (desk-write (part w (deskPlace (headerOf w .securities) k) 291) (words.length-part w (deskPlace (headerOf w .securities) k) 291 (omega (arith, sized .long, sized .counted))))
+      sym (desk-write (part w (deskPlace (headerOf w .securities) k) deskSize) (words.length-part w (deskPlace (headerOf w .securities) k) deskSize (omega (arith, sized .long, sized .counted))))
 
   module _ (s : ℕ) (below : s < securities) (x : Security) where
     security-fits : securityPlace s + length (securityWords x) ≤ length w
@@ -91,25 +80,25 @@ module _ {customers securities : ℕ} (w : List ℕ) (sized : Sized customers se
 
     pub security-put-below : (t : ℕ) → t < s → securityAt (putSecurity w s x) t ≡ securityAt w t
     unfolding putSecurity securityAt
-    security-put-below t h = ap securityOf (words.part-put-before w (securityPlace s) (securityWords x) security-fits (securityPlace t) 13 (omega arith))
+    security-put-below t h = ap securityOf (words.part-put-before w (securityPlace s) (securityWords x) security-fits (securityPlace t) securitySize (omega arith))
 
     pub security-put-above : (t : ℕ) → s < t → securityAt (putSecurity w s x) t ≡ securityAt w t
     unfolding putSecurity securityAt
-    security-put-above t h = ap securityOf (words.part-put-after w (securityPlace s) (securityWords x) security-fits (securityPlace t) 13 (omega (arith, length-security x)))
+    security-put-above t h = ap securityOf (words.part-put-after w (securityPlace s) (securityWords x) security-fits (securityPlace t) securitySize (omega (arith, length-security x)))
 
     pub desk-put-security : (k : ℕ) → deskAt (putSecurity w s x) k ≡ deskAt w k
     unfolding putSecurity deskAt
     desk-put-security k =
-        rw (words.getD-put-before w (securityPlace s) (securityWords x) security-fits 1 (omega arith))
-        (ap deskOf (words.part-put-after w (securityPlace s) (securityWords x) security-fits (deskPlace (headerOf w .securities) k) 291 (omega (arith, length-security x, sized .counted))))
+        rw (header-put w (securityPlace s) (securityWords x) security-fits (omega arith))
+        (ap deskOf (words.part-put-after w (securityPlace s) (securityWords x) security-fits (deskPlace (headerOf w .securities) k) deskSize (omega (arith, length-security x, sized .counted))))
 
     pub market-put-security : marketWords (putSecurity w s x) ≡ putSecurity (marketWords w) s x
     unfolding marketWords putSecurity
     market-put-security =
-        rw (words.getD-put-before w (securityPlace s) (securityWords x) security-fits 1 (omega arith))
+        rw (header-put w (securityPlace s) (securityWords x) security-fits (omega arith))
         (words.take-put w (securityPlace s) (securityWords x) security-fits (securityPlace (headerOf w .securities)) (omega (arith, length-security x, sized .counted)) (omega (arith, sized .long, sized .counted)))
 
-  module _ (k : ℕ) (below : k < customers) (d : Desk) (whole : length (d .rows) ≡ 32) where
+  module _ (k : ℕ) (below : k < customers) (d : Desk) (whole : length (d .rows) ≡ deskRows) where
     desk-fits : deskPlace securities k + length (deskWords d) ≤ length w
     desk-fits = omega (arith, length-desk d whole, sized .long)
 
@@ -123,7 +112,7 @@ module _ {customers securities : ℕ} (w : List ℕ) (sized : Sized customers se
           counted = ap (λ (h : Header). h .securities) header-put-desk ∙ sized .counted;
         }
 
-    placed : (j : ℕ) → deskAt (putDesk w k d) j ≡ deskOf (part (put w (deskPlace securities k) (deskWords d)) (deskPlace securities j) 291)
+    placed : (j : ℕ) → deskAt (putDesk w k d) j ≡ deskOf (part (put w (deskPlace securities k) (deskWords d)) (deskPlace securities j) deskSize)
     unfolding deskAt
     placed j = rw (ap (λ (h : Header). h .securities) header-put-desk, sized .counted, put-desk k d)
 
@@ -137,19 +126,19 @@ module _ {customers securities : ℕ} (w : List ℕ) (sized : Sized customers se
     pub desk-put-below : (j : ℕ) → j < k → deskAt (putDesk w k d) j ≡ deskAt w j
     desk-put-below j h =
         placed j
-        ∙ ap deskOf (words.part-put-before w (deskPlace securities k) (deskWords d) desk-fits (deskPlace securities j) 291 (omega arith))
+        ∙ ap deskOf (words.part-put-before w (deskPlace securities k) (deskWords d) desk-fits (deskPlace securities j) deskSize (omega arith))
         ∙ sym (desk-at j)
 
     pub desk-put-above : (j : ℕ) → k < j → deskAt (putDesk w k d) j ≡ deskAt w j
     desk-put-above j h =
         placed j
-        ∙ ap deskOf (words.part-put-after w (deskPlace securities k) (deskWords d) desk-fits (deskPlace securities j) 291 (omega (arith, length-desk d whole)))
+        ∙ ap deskOf (words.part-put-after w (deskPlace securities k) (deskWords d) desk-fits (deskPlace securities j) deskSize (omega (arith, length-desk d whole)))
         ∙ sym (desk-at j)
 
     pub security-put-desk : (s : ℕ) → s < securities → securityAt (putDesk w k d) s ≡ securityAt w s
     unfolding securityAt
     security-put-desk s h =
-        rw (put-desk k d) (ap securityOf (words.part-put-before w (deskPlace securities k) (deskWords d) desk-fits (securityPlace s) 13 (omega arith)))
+        rw (put-desk k d) (ap securityOf (words.part-put-before w (deskPlace securities k) (deskWords d) desk-fits (securityPlace s) securitySize (omega arith)))
 
     pub market-put-desk : marketWords (putDesk w k d) ≡ marketWords w
     unfolding marketWords

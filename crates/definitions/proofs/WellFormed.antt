@@ -9,29 +9,29 @@ use native.Mathlib.Nat.{le-refl}
 use native.Mathlib.Omega.{arith}
 use lib.Dec.{leb, eqb, lit≤, lit<}
 use lib.ListN.{length}
-use borrow.Author.Tests.{eq-eqb, le-leb, leb-false, ltb-false, eqb-true}
+use borrow.Author.Tests.{eq-eqb, le-leb, leb-false, ltb-false, eqb-true, lt-leb}
 use Rattle.definitions.specs.declared.Header.{Header}
 use Rattle.definitions.specs.declared.Security.{Security}
 use Rattle.definitions.specs.declared.Desk.{Desk}
 use Rattle.definitions.specs.declared.Event.{Event}
 use Rattle.definitions.specs.declared.Event.the-variants as event
-use Rattle.definitions.specs.declared.Reading.{Reading}
-use Rattle.definitions.specs.declared.Reading.the-variants as reading
-use Rattle.definitions.specs.Codes.{lastTime, preClose}
-use Rattle.definitions.specs.Lists.{allBelow, each, put}
-use Rattle.definitions.specs.State.{headerOf, securityAt, deskAt, putSecurity, putDesk, stateFits, sizesFit, stateSize, sessionPlace}
+use Rattle.definitions.specs.Codes.{lastTime, preClose, deskRows}
+use Rattle.definitions.specs.Lists.{allBelow, each, put, firstMet}
+use Rattle.definitions.specs.State.{headerOf, securityAt, deskAt, putSecurity, putDesk, stateFits, sizesFit, stateSize, sessionPlace, headerSize, clockPlace}
 use Rattle.definitions.specs.Sound.{soundSecurity, soundDesk}
-use Rattle.definitions.specs.Events.{readEvent}
-use Rattle.definitions.specs.Refusals as refusals
-use Rattle.definitions.specs.Gate.{turned, wordsOf, viewOf, allSound, soundSecurityAt, soundDeskAt, refusal, sweepDeskAt, sessionMarket, afterClock, afterSession, perform, stepEvent, stepReading, step, stepWords}
-use Rattle.definitions.proofs.Tests.{or-parts}
+use Rattle.definitions.specs.Events.{eventIn, Named, none, one, every, customerNamed, securityNamed}
+use Rattle.definitions.specs.Refusals.{beyond, badName}
+use Rattle.definitions.specs.Gate.{refused, wordsOf, marketViewAt, soundSecurityAt, soundDeskAt, soundNamed, recordsSound, conditions, changeDesk, sessionMarket, afterSession, perform, outcome, eventWords}
+use Rattle.definitions.proofs.Tests.{and-whole, or-parts}
 use Rattle.definitions.proofs.State as state
 use Rattle.definitions.proofs.State.{Sized}
 use Rattle.definitions.proofs.HeaderWords as words
-use Rattle.definitions.proofs.Passed.{Passed, passed}
-use Rattle.definitions.proofs.Session.{Cleared, clears, Swept, sweeps}
+use Rattle.definitions.proofs.Passed.{Passed, passed, none-met-event}
+use Rattle.definitions.proofs.Session.{Cleared, clears, DesksChanged, changes}
 use Rattle.definitions.proofs.SoundDesk as desk
 use Rattle.definitions.proofs.SoundSecurity as security
+use Rattle.definitions.proofs.SoundRow.{session-sound, session-kept, cancelled-sound, cancelled-kept, matched-sound, matched-kept}
+use Rattle.definitions.specs.Desks.{sessionRow, cancelledRow, matchedRow, changed}
 
 pub record Good (customers securities : ℕ) (w : List ℕ) : Type 0 where
   pub sized : Sized customers securities w
@@ -46,6 +46,12 @@ all-below : (n : ℕ) (p : ℕ → Bool) → ((i : ℕ) → i < n → p i ≡ tr
 unfolding allBelow
 all-below zero p h = refl
 all-below (suc n) p h = rw (all-below n p (λ i less. h i (omega arith))) (h n (omega arith))
+
+-- a test that holds of every number below n holds of what an event names
+named-sound : (n : ℕ) (p : ℕ → Bool) (x : Named) → ((i : ℕ) → i < n → p i ≡ true) → beyond n x ≡ false → soundNamed n p x ≡ true
+named-sound n p none h inside = refl
+named-sound n p (one i) h inside = h i (leb-false n i inside)
+named-sound n p every h inside = all-below n p h
 
 abbrev pub sessionSet : ℕ → List ℕ → List ℕ
 sessionSet s w = put w sessionPlace (s ∷ [])
@@ -73,12 +79,13 @@ module _ {customers securities : ℕ} (w : List ℕ) (good : Good customers secu
   pub desk-sound : (k : ℕ) → k < customers → soundDeskAt w k ≡ true
   desk-sound k below = rw (good .sized .counted) (good .desks-sound k below)
 
-  pub all-sound : allSound w ≡ true
-  unfolding allSound
-  all-sound =
-      rw
-      (all-below (headerOf w .securities) (soundSecurityAt w) (λ s below. good .securities-sound s (rw (good .sized .counted) at below)))
-      (all-below (headerOf w .customers) (soundDeskAt w) (λ k below. desk-sound k (rw (good .served) at below)))
+  -- condition 8 is not met by an event that names what is there
+  pub records-sound : (e : Event) → badName (headerOf w) e ≡ false → recordsSound w e ≡ true
+  records-sound e n =
+      let parts = or-parts (beyond (headerOf w .customers) (customerNamed e)) (beyond (headerOf w .securities) (securityNamed e)) n in
+      and-whole
+      (named-sound (headerOf w .securities) (soundSecurityAt w) (securityNamed e) (λ s below. good .securities-sound s (rw (good .sized .counted) at below)) (parts .1))
+      (named-sound (headerOf w .customers) (soundDeskAt w) (customerNamed e) (λ k below. desk-sound k (rw (good .served) at below)) (parts .0))
 
   -- a record put back
   pub good-put-security : (s : ℕ) (x : Security) → s < securities → soundSecurity x ≡ true → Good customers securities (putSecurity w s x)
@@ -101,7 +108,7 @@ module _ {customers securities : ℕ} (w : List ℕ) (good : Good customers secu
       kept t t-below (inr (inl e)) = rw (e, state.security-put-same w (good .sized) s below x) sound
       kept t t-below (inr (inr more)) = rw (state.security-put-above w (good .sized) s below x t more) (good .securities-sound t t-below)
 
-  pub good-put-desk : (k : ℕ) (d : Desk) → k < customers → length (d .rows) ≡ 32 → soundDesk securities (headerOf w .clock) d ≡ true → Good customers securities (putDesk w k d)
+  pub good-put-desk : (k : ℕ) (d : Desk) → k < customers → length (d .rows) ≡ deskRows → soundDesk securities (headerOf w .clock) d ≡ true → Good customers securities (putDesk w k d)
   good-put-desk k d below whole sound =
       let header = state.header-put-desk w (good .sized) k below d whole in
       let clock = ap (λ (h : Header). h .clock) header in
@@ -121,11 +128,10 @@ module _ {customers securities : ℕ} (w : List ℕ) (good : Good customers secu
       kept j j-below (inr (inl e)) = rw (e, state.desk-put-same w (good .sized) k below d whole) sound
       kept j j-below (inr (inr more)) = rw (state.desk-put-above w (good .sized) k below d whole j more) (good .desks-sound j j-below)
 
-  long-enough : 4 ≤ length w
+  long-enough : headerSize ≤ length w
   long-enough = omega (arith, good .sized .long)
 
-  pub good-clock : (t : ℕ) → t ≤ lastTime → headerOf w .clock ≤ t → Good customers securities (afterClock t w)
-  unfolding afterClock
+  pub good-clock : (t : ℕ) → t ≤ lastTime → headerOf w .clock ≤ t → Good customers securities (put w clockPlace (t ∷ []))
   good-clock t last later =
       let header = words.header-clock t w long-enough in
       record {
@@ -141,7 +147,7 @@ module _ {customers securities : ℕ} (w : List ℕ) (good : Good customers secu
             (desk.sound-later securities (headerOf w .clock) t (deskAt w k) later (good .desks-sound k below));
       }
 
-  -- the session set, then every projected price absent, then every desk swept
+  -- the session set, then every projected price absent, then every desk changed
   sized-session : (s : ℕ) → Sized customers securities (sessionSet s w)
   sized-session s = words.sized-put w (good .sized) 3 (lit≤ tt) (lit< tt) s
 
@@ -149,15 +155,15 @@ module _ {customers securities : ℕ} (w : List ℕ) (good : Good customers secu
   unfolding sessionMarket
   cleared s = rw (good .sized .counted) (clears securities (sessionSet s w) (sized-session s) (le-refl securities))
 
-  pub whole-session : (s : ℕ) → Swept customers securities customers (sessionMarket s w) (each (headerOf w .customers) sweepDeskAt (sessionMarket s w))
-  whole-session s = rw (good .served) (sweeps customers (sessionMarket s w) (cleared s .sized) (le-refl customers))
+  pub whole-session : (s : ℕ) → DesksChanged customers securities customers (sessionMarket s w) (each (headerOf w .customers) (changeDesk (changed sessionRow)) (sessionMarket s w))
+  whole-session s = rw (good .served) (changes customers (sessionMarket s w) (cleared s .sized) (le-refl customers))
 
   pub good-session : (s : ℕ) → s ≤ preClose → Good customers securities (afterSession s w)
   unfolding afterSession
   good-session s listed = go (eqb s (headerOf w .session)) refl
     where
-      changed : Good customers securities (each (headerOf w .customers) sweepDeskAt (sessionMarket s w))
-      changed =
+      anew : Good customers securities (each (headerOf w .customers) (changeDesk (changed sessionRow)) (sessionMarket s w))
+      anew =
           let c = cleared s in
           let v = whole-session s in
           let header = v .header ∙ c .header ∙ words.header-session s w long-enough in
@@ -175,12 +181,12 @@ module _ {customers securities : ℕ} (w : List ℕ) (good : Good customers secu
                 λ k below.
                 rw
                 (ap (λ (h : Header). h .clock) header, v .done k below, c .desks k, words.desk-put w (good .sized) 3 (lit≤ tt) (lit< tt) s k)
-                (desk.sound-swept securities (headerOf w .clock) (deskAt w k) (good .desks-sound k below));
+                (desk.sound-changed securities (headerOf w .clock) sessionRow (session-sound securities (headerOf w .clock)) session-kept (deskAt w k) (good .desks-sound k below));
           }
 
-      go : (t : Bool) → eqb s (headerOf w .session) ≡ t → Good customers securities (cond t w (each (headerOf w .customers) sweepDeskAt (sessionMarket s w)))
+      go : (t : Bool) → eqb s (headerOf w .session) ≡ t → Good customers securities (cond t w (each (headerOf w .customers) (changeDesk (changed sessionRow)) (sessionMarket s w)))
       go true e = good
-      go false e = changed
+      go false e = anew
 
   pub below-securities : (s : ℕ) → leb (headerOf w .securities) s ≡ false → s < securities
   below-securities s e = omega (arith, leb-false (headerOf w .securities) s e, good .sized .counted)
@@ -195,46 +201,46 @@ module _ {customers securities : ℕ} (w : List ℕ) (good : Good customers secu
     below-securities s (or-parts (leb (headerOf w .customers) k) (leb (headerOf w .securities) s) e .1),
   )
 
+  -- the customer of a cancel or a match report, where condition 4 is not met
+  pub customer-named : (k : ℕ) → (leb (headerOf w .customers) k || false) ≡ false → k < customers
+  customer-named k e = below-customers k (or-parts (leb (headerOf w .customers) k) false e .0)
+
   -- what an event that meets no condition does keeps a state well formed
   pub performs : (e : Event) → Passed w e → Good customers securities (wordsOf w (perform w e))
-  unfolding perform refusals.names refusals.codes refusals.earlier refusals.matchVolume viewOf
-  performs (event.Clock t) p = good-clock t (ltb-false lastTime t (p .codes)) (ltb-false t (headerOf w .clock) (p .earlier))
-  performs (event.Session s) p = good-session s (ltb-false preClose s (p .codes))
+  unfolding perform
+  performs (event.Clock t) p =
+      good-clock t (ltb-false lastTime t (passed 5 w (event.Clock t) p)) (ltb-false t (headerOf w .clock) (passed 7 w (event.Clock t) p))
+  performs (event.Session s) p = good-session s (ltb-false preClose s (passed 5 w (event.Session s) p))
   performs (event.Setup x) p =
-      let below = below-securities (x .security) (p .names) in
-      good-put-security (x .security) _ below (security.sound-setup x _ (good .securities-sound (x .security) below) (p .codes) (p .prices))
+      let at = event.Setup x in
+      let below = below-securities (x .security) (passed 4 w at p) in
+      good-put-security (x .security) _ below (security.sound-setup x _ (good .securities-sound (x .security) below) (passed 5 w at p) (passed 6 w at p))
   performs (event.Prices x) p =
-      let below = below-securities (x .security) (p .names) in
-      good-put-security (x .security) _ below (security.sound-prices x _ (good .securities-sound (x .security) below) (p .prices))
+      let at = event.Prices x in
+      let below = below-securities (x .security) (passed 4 w at p) in
+      good-put-security (x .security) _ below (security.sound-prices x _ (good .securities-sound (x .security) below) (passed 6 w at p))
   performs (event.Order k x) p =
-      let below = order-names k (x .security) (p .names) .0 in
+      let at = event.Order k x in
+      let below = order-names k (x .security) (passed 4 w at p) in
       let d = deskAt w k in
       let rows = state.length-desk-rows w (good .sized) k in
-      good-put-desk k _ below (desk.length-ordered _ (headerOf w .clock) x d ∙ rows)
-      (rw (good .sized .counted) at
-      (desk.sound-ordered (headerOf w) (securityAt w (x .security)) d k x rows (desk-sound k below) (p .names) (p .codes) (p .prices) (p .numberTaken) (p .deskFull)))
+      let within : leb securities (x .security) ≡ false = lt-leb securities (x .security) (below .1) in
+      good-put-desk k _ (below .0) (desk.length-ordered _ (headerOf w .clock) x d ∙ rows)
+      (desk.sound-ordered securities (marketViewAt w (x .security)) d x rows (good .desks-sound k (below .0)) within (passed 5 w at p) (passed 6 w at p) (passed 9 w at p) (passed 12 w at p))
   performs (event.Cancel k x) p =
-      let below = below-customers k (p .names) in
-      good-put-desk k _ below (desk.length-cancelled (x .number) (headerOf w .clock) (deskAt w k) ∙ state.length-desk-rows w (good .sized) k)
-      (desk.sound-cancelled securities (headerOf w .clock) (x .number) (deskAt w k) (good .desks-sound k below))
+      let below = customer-named k (passed 4 w (event.Cancel k x) p) in
+      good-put-desk k _ below (desk.length-changed (cancelledRow (x .number) (headerOf w .clock)) (deskAt w k) ∙ state.length-desk-rows w (good .sized) k)
+      (desk.sound-changed securities (headerOf w .clock) _ (cancelled-sound securities (headerOf w .clock) (x .number)) (cancelled-kept (x .number) (headerOf w .clock)) (deskAt w k) (good .desks-sound k below))
   performs (event.Match k x) p =
-      let below = below-customers k (p .names) in
-      good-put-desk k _ below (desk.length-matched (x .number) (x .volume) (deskAt w k) ∙ state.length-desk-rows w (good .sized) k)
-      (desk.sound-matched securities (headerOf w .clock) (x .number) (x .volume) (deskAt w k) (good .desks-sound k below) (or-parts (eqb (x .volume) 0) _ (p .matchVolume) .0))
-
-  pub step-is : (b : List ℕ) → step w b ≡ stepReading w (readEvent b)
-  unfolding step
-  step-is b = rw fits
+      let below = customer-named k (passed 4 w (event.Match k x) p) in
+      good-put-desk k _ below (desk.length-changed (matchedRow (x .number) (x .volume)) (deskAt w k) ∙ state.length-desk-rows w (good .sized) k)
+      (desk.sound-changed securities (headerOf w .clock) _ (matched-sound securities (headerOf w .clock) (x .number) (x .volume)) (matched-kept (x .number) (x .volume)) (deskAt w k) (good .desks-sound k below))
 
   -- each event keeps a state well formed
-  pub keeps : (b : List ℕ) → Good customers securities (stepWords w b)
-  unfolding stepEvent
-  keeps b = rw (step-is b) (read (readEvent b))
+  pub keeps : (b : List ℕ) → Good customers securities (eventWords w b)
+  unfolding outcome
+  keeps b = tried (eqb (firstMet (conditions w b)) 0) refl
     where
-      tried : (e : Event) (t : Bool) → eqb (refusal w e) 0 ≡ t → Good customers securities (wordsOf w (cond t (perform w e) (turned (refusal w e))))
-      tried e true none = performs e (passed w e (eqb-true (refusal w e) 0 none))
-      tried e false some = good
-
-      read : (r : Reading) → Good customers securities (wordsOf w (stepReading w r))
-      read (reading.Refused n) = good
-      read (reading.Whole e) = tried e (eqb (refusal w e) 0) refl
+      tried : (t : Bool) → eqb (firstMet (conditions w b)) 0 ≡ t → Good customers securities (wordsOf w (cond t (perform w (eventIn b)) (refused (firstMet (conditions w b)))))
+      tried true unmet = performs (eventIn b) (none-met-event w b (eqb-true (firstMet (conditions w b)) 0 unmet))
+      tried false some = good

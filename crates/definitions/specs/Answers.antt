@@ -37,10 +37,6 @@ unfoldable pub decimalIn : ℕ → ℕ → List ℕ
 decimalIn zero n = []
 decimalIn (suc k) n = cond (ltb n 10) ((48 + n) ∷ []) (decimalIn k (n / 10) ++ ((48 + n % 10) ∷ []))
 
--- every number of 32 bits has at most ten digits
-abbrev pub decimal : ℕ → List ℕ
-decimal n = decimalIn 10 n
-
 -- "`accept`, `warn 30`, `warn 10`, `reject` and a letter"
 abbrev pub verdictText : Verdict → List ℕ
 verdictText verdict.RejectS = ascii "reject S"
@@ -52,8 +48,9 @@ verdictText verdict.Warn30 = ascii "warn 30"
 verdictText verdict.Warn10 = ascii "warn 10"
 verdictText verdict.Accept = ascii "accept"
 
+-- every number of 32 bits has at most ten digits
 abbrev pub refusedText : ℕ → List ℕ
-refusedText n = ascii "refused " ++ decimal n
+refusedText n = ascii "refused " ++ decimalIn 10 n
 
 -- "its answer (`ok`, .., `refused` and a number)"
 abbrev pub answerText : Answer → List ℕ

@@ -1,5 +1,7 @@
 -- The codes and limits of paper 01, by name.
+use mathlib.Core.Bool.{Bool, _||_}
 use Prim.Native.Nat.{ℕ}
+use lib.Dec.{eqb}
 
 -- "The lent state": session (0 closed, 1 pre-open, 2 open, 3 break, 4 pre-close)
 abbrev pub closed : ℕ
@@ -54,6 +56,17 @@ atc = 2
 abbrev pub mp : ℕ
 mp = 3
 
+abbrev pub isLimit : ℕ → Bool
+isLimit type = eqb type limit
+
+-- "ATO and ATC"
+abbrev pub isAuction : ℕ → Bool
+isAuction type = eqb type ato || eqb type atc
+
+-- "sessions 1 and 4"
+abbrev pub inAuction : ℕ → Bool
+inAuction session = eqb session preOpen || eqb session preClose
+
 -- "Channel: 0 front office, 1 online, 2 DMA"
 abbrev pub online : ℕ
 online = 1
@@ -66,23 +79,23 @@ abbrev pub lastTime : ℕ
 lastTime = 86_399_999
 
 -- "cancelled at most 60,000 ms ago"
-abbrev pub remembered : ℕ
-remembered = 60_000
+abbrev pub minute : ℕ
+minute = 60_000
 
 -- "C customers (1 to 256) and S securities (1 to 1,024)"; "32 rows"
-abbrev pub mostCustomers : ℕ
-mostCustomers = 256
+abbrev pub maxCustomers : ℕ
+maxCustomers = 256
 
-abbrev pub mostSecurities : ℕ
-mostSecurities = 1_024
+abbrev pub maxSecurities : ℕ
+maxSecurities = 1_024
 
 abbrev pub deskRows : ℕ
 deskRows = 32
 
 -- "volume 1 to 20,000,000"
-abbrev pub mostVolume : ℕ
-mostVolume = 20_000_000
+abbrev pub maxVolume : ℕ
+maxVolume = 20_000_000
 
 -- "each stays at 4,294,967,295 once there"
-abbrev pub mostCounted : ℕ
-mostCounted = 4_294_967_295
+abbrev pub maxCount : ℕ
+maxCount = 4_294_967_295

@@ -9,27 +9,35 @@ use Rattle.definitions.specs.declared.Desk.{Desk}
 use Rattle.definitions.specs.declared.Order.{Order}
 use Rattle.definitions.specs.declared.Verdict.{Verdict}
 use Rattle.definitions.specs.declared.Verdict.the-variants as verdict
-use Rattle.definitions.specs.Codes.{openMark, cancelledMark, limit, mp, remembered, deskRows, mostCounted}
+use Rattle.definitions.specs.declared.Counter.{Counter}
+use Rattle.definitions.specs.declared.Counter.the-variants as counts
+use Rattle.definitions.specs.Codes.{freeMark, openMark, cancelledMark, mp, isLimit, isAuction, minute, deskRows, maxCount}
 use Rattle.definitions.specs.Lists.{keep, count}
+use Rattle.definitions.specs.State.{row}
 use Rattle.definitions.specs.Sound.{marked}
 
 abbrev pub freeRow : Row
-freeRow =
-    record { mark = 0; number = 0; security = 0; board = 0; side = 0; ordtype = 0; price = 0; volume = 0; «cancel_time» = 0 }
+freeRow = row freeMark 0 0 0 0 0 0 0 0
+
+abbrev pub desk : ℕ → ℕ → ℕ → List Row → Desk
+desk accepted warned rejected rows = record { accepted = accepted; warned = warned; rejected = rejected; rows = rows }
 
 abbrev pub freshDesk : Desk
-freshDesk = record { accepted = 0; warned = 0; rejected = 0; rows = replicate deskRows freeRow }
+freshDesk = desk 0 0 0 (replicate deskRows freeRow)
 
 -- "cancelled at most 60,000 ms ago"
-abbrev pub recent : ℕ → Row → Bool
-recent clock r = eqb (r .mark) cancelledMark && leb clock (r .«cancel_time» + remembered)
+abbrev pub inMinute : ℕ → ℕ → Bool
+inMinute clock time = leb clock (time + minute)
+
+abbrev pub cancelledInMinute : ℕ → Row → Bool
+cancelledInMinute clock r = eqb (r .mark) cancelledMark && inMinute clock (r .«cancel_time»)
 
 abbrev pub isOpen : Row → Bool
 isOpen r = eqb (r .mark) openMark
 
 -- "open rows and rows cancelled at most 60,000 ms ago"
-abbrev pub live : ℕ → Row → Bool
-live clock r = isOpen r || recent clock r
+abbrev pub openOrInMinute : ℕ → Row → Bool
+openOrInMinute clock r = isOpen r || cancelledInMinute clock r
 
 abbrev pub openWith : ℕ → Row → Bool
 openWith number r = isOpen r && eqb (r .number) number
@@ -44,75 +52,40 @@ edited f rows = closeUp (map f rows)
 
 -- "rows cancelled more than 60,000 ms ago go"
 abbrev pub expiredRow : ℕ → Row → Row
-expiredRow clock r = cond (eqb (r .mark) cancelledMark && not (recent clock r)) freeRow r
+expiredRow clock r = cond (eqb (r .mark) cancelledMark && not (cancelledInMinute clock r)) freeRow r
 
 -- "removes the desk's ATO and ATC rows"
-abbrev pub sweptRow : Row → Row
-sweptRow r = cond (eqb (r .ordtype) limit) r freeRow
+abbrev pub sessionRow : Row → Row
+sessionRow r = cond (isAuction (r .«order_type»)) freeRow r
 
 -- "marks an open limit row cancelled at the clock, or removes an ATO or ATC row"
 abbrev pub markedCancelled : ℕ → Row → Row
 markedCancelled clock r =
-    record {
-      mark = cancelledMark;
-      number = r .number;
-      security = r .security;
-      board = r .board;
-      side = r .side;
-      ordtype = r .ordtype;
-      price = r .price;
-      volume = r .volume;
-      «cancel_time» = clock;
-    }
+    row cancelledMark (r .number) (r .security) (r .board) (r .side) (r .«order_type») (r .price) (r .volume) clock
 
 abbrev pub cancelledRow : ℕ → ℕ → Row → Row
-cancelledRow number clock r = cond (openWith number r) (cond (eqb (r .ordtype) limit) (markedCancelled clock r) freeRow) r
+cancelledRow number clock r = cond (openWith number r) (cond (isLimit (r .«order_type»)) (markedCancelled clock r) freeRow) r
 
 -- "lowers the volume; at 0 the row goes"
 abbrev pub withVolume : ℕ → Row → Row
 withVolume volume r =
-    record {
-      mark = r .mark;
-      number = r .number;
-      security = r .security;
-      board = r .board;
-      side = r .side;
-      ordtype = r .ordtype;
-      price = r .price;
-      volume = volume;
-      «cancel_time» = r .«cancel_time»;
-    }
+    row (r .mark) (r .number) (r .security) (r .board) (r .side) (r .«order_type») (r .price) volume (r .«cancel_time»)
 
 abbrev pub matchedRow : ℕ → ℕ → Row → Row
 matchedRow number volume r =
     cond (openWith number r) (cond (leb (r .volume) volume) freeRow (withVolume (r .volume - volume) r)) r
 
 abbrev pub withRows : List Row → Desk → Desk
-withRows rows d = record { accepted = d .accepted; warned = d .warned; rejected = d .rejected; rows = rows }
+withRows rows d = desk (d .accepted) (d .warned) (d .rejected) rows
 
-unfoldable pub swept : Desk → Desk
-swept d = withRows (edited sweptRow (d .rows)) d
-
-unfoldable pub cancelled : ℕ → ℕ → Desk → Desk
-cancelled number clock d = withRows (edited (cancelledRow number clock) (d .rows)) d
-
-unfoldable pub matched : ℕ → ℕ → Desk → Desk
-matched number volume d = withRows (edited (matchedRow number volume) (d .rows)) d
+-- the desk with each row as f leaves it, closed up
+unfoldable pub changed : (Row → Row) → Desk → Desk
+changed f d = withRows (edited f (d .rows)) d
 
 -- "then the order stands last as an open row"
 abbrev pub rowOfOrder : Order → Row
 rowOfOrder o =
-    record {
-      mark = openMark;
-      number = o .number;
-      security = o .security;
-      board = o .board;
-      side = o .side;
-      ordtype = o .ordtype;
-      price = o .price;
-      volume = o .volume;
-      «cancel_time» = 0;
-    }
+    row openMark (o .number) (o .security) (o .board) (o .side) (o .«order_type») (o .price) (o .volume) 0
 
 abbrev pub addedLast : Row → List Row → List Row
 addedLast r rows = set rows (count marked rows) r
@@ -122,44 +95,36 @@ added clock o d = withRows (addedLast (rowOfOrder o) (edited (expiredRow clock) 
 
 -- "its counter rises by 1, up to 4,294,967,295"
 abbrev pub countedUp : ℕ → ℕ
-countedUp n = cond (ltb n mostCounted) (n + 1) n
+countedUp n = cond (ltb n maxCount) (n + 1) n
 
-abbrev pub rejects : Verdict → Bool
-rejects verdict.RejectS = true
-rejects verdict.RejectV = true
-rejects verdict.RejectQ = true
-rejects verdict.RejectW = true
-rejects verdict.RejectP = true
-rejects verdict.Warn30 = false
-rejects verdict.Warn10 = false
-rejects verdict.Accept = false
+-- what a verdict counts as
+abbrev pub counterOf : Verdict → Counter
+counterOf verdict.RejectS = counts.Rejected
+counterOf verdict.RejectV = counts.Rejected
+counterOf verdict.RejectQ = counts.Rejected
+counterOf verdict.RejectW = counts.Rejected
+counterOf verdict.RejectP = counts.Rejected
+counterOf verdict.Warn30 = counts.Warned
+counterOf verdict.Warn10 = counts.Warned
+counterOf verdict.Accept = counts.Accepted
 
-abbrev pub warns : Verdict → Bool
-warns verdict.RejectS = false
-warns verdict.RejectV = false
-warns verdict.RejectQ = false
-warns verdict.RejectW = false
-warns verdict.RejectP = false
-warns verdict.Warn30 = true
-warns verdict.Warn10 = true
-warns verdict.Accept = false
-
-abbrev pub accepts : Verdict → Bool
-accepts v = not (rejects v) && not (warns v)
+abbrev pub countedAs : Counter → Desk → Desk
+countedAs counts.Accepted d = desk (countedUp (d .accepted)) (d .warned) (d .rejected) (d .rows)
+countedAs counts.Warned d = desk (d .accepted) (countedUp (d .warned)) (d .rejected) (d .rows)
+countedAs counts.Rejected d = desk (d .accepted) (d .warned) (countedUp (d .rejected)) (d .rows)
 
 -- "Each verdict adds 1 to its counter"
 unfoldable pub counted : Verdict → Desk → Desk
-counted v d =
-    record {
-      accepted = cond (accepts v) (countedUp (d .accepted)) (d .accepted);
-      warned = cond (warns v) (countedUp (d .warned)) (d .warned);
-      rejected = cond (rejects v) (countedUp (d .rejected)) (d .rejected);
-      rows = d .rows;
-    }
+counted v d = countedAs (counterOf v) d
 
 -- "Accepted or warned, not MP": the order takes a row
+abbrev pub isRejected : Counter → Bool
+isRejected counts.Accepted = false
+isRejected counts.Warned = false
+isRejected counts.Rejected = true
+
 abbrev pub takesRow : Verdict → Order → Bool
-takesRow v o = not (rejects v) && not (eqb (o .ordtype) mp)
+takesRow v o = not (isRejected (counterOf v)) && not (eqb (o .«order_type») mp)
 
 unfoldable pub ordered : Verdict → ℕ → Order → Desk → Desk
 ordered v clock o d = counted v (cond (takesRow v o) (added clock o d) d)

@@ -1,13 +1,13 @@
--- Paper 01, "Events": bytes to one event or a refusal, and to whom an event belongs.
-use mathlib.Core.Bool.{cond}
+-- Paper 01, "Events": bytes to one event or a refusal, what an event names, and to whom it belongs.
+use mathlib.Core.Bool.{Bool, cond, not}
 use mathlib.Core.List.{List, [], _∷_}
 use Prim.Native.Nat.{ℕ, _+_, _-_, _*_}
 use lib.Dec.{ltb, eqb}
 use lib.ListN.{length, getD}
 use Rattle.definitions.specs.declared.Event.{Event}
 use Rattle.definitions.specs.declared.Event.the-variants as event
-use Rattle.definitions.specs.declared.Reading.{Reading}
-use Rattle.definitions.specs.declared.Reading.the-variants.{Whole, Refused}
+use Rattle.definitions.specs.Lists.{firstMet}
+use Rattle.definitions.specs.State.{termsAt}
 
 -- "little-endian": the number of two and of four bytes from a place on
 abbrev pub two : List ℕ → ℕ → ℕ
@@ -16,14 +16,7 @@ two b at = getD b at 0 + 256 * getD b (at + 1) 0
 abbrev pub four : List ℕ → ℕ → ℕ
 four b at = getD b at 0 + 256 * getD b (at + 1) 0 + 65_536 * getD b (at + 2) 0 + 16_777_216 * getD b (at + 3) 0
 
--- the column "length" of the table, from kind 1 on; 0 for an unknown kind
-abbrev pub lengths : List ℕ
-lengths = 5 ∷ 2 ∷ 14 ∷ 20 ∷ 21 ∷ 7 ∷ 11 ∷ []
-
-unfoldable pub lengthOf : ℕ → ℕ
-lengthOf kind = cond (eqb kind 0) 0 (getD lengths (kind - 1) 0)
-
--- the column "body" of the table, with a byte of kind before it
+-- the column "body" of the table of kinds, with a byte of kind before it
 abbrev pub clockOf : List ℕ → Event
 clockOf b = event.Clock (four b 1)
 
@@ -31,16 +24,7 @@ abbrev pub sessionOf : List ℕ → Event
 sessionOf b = event.Session (getD b 1 0)
 
 abbrev pub setupOf : List ℕ → Event
-setupOf b =
-    event.Setup
-    (record {
-      security = two b 1;
-      lot = getD b 3 0;
-      free = getD b 4 0;
-      «first_day» = getD b 5 0;
-      «prior_close» = four b 6;
-      ipo = four b 10;
-    })
+setupOf b = event.Setup (record { security = two b 1; terms = termsAt b 3; prior = record { close = four b 6; ipo = four b 10 } })
 
 abbrev pub pricesOf : List ℕ → Event
 pricesOf b =
@@ -60,7 +44,7 @@ orderOf b =
       security = two b 7;
       board = getD b 9 0;
       side = getD b 10 0;
-      ordtype = getD b 11 0;
+      «order_type» = getD b 11 0;
       channel = getD b 12 0;
       price = four b 13;
       volume = four b 17;
@@ -72,63 +56,62 @@ cancelOf b = event.Cancel (two b 1) (record { number = four b 3 })
 abbrev pub matchOf : List ℕ → Event
 matchOf b = event.Match (two b 1) (record { number = four b 3; volume = four b 7 })
 
+-- the table from kind 1 on: length and body
+abbrev pub kinds : List (ℕ × (List ℕ → Event))
+kinds = (5, clockOf) ∷ (2, sessionOf) ∷ (14, setupOf) ∷ (20, pricesOf) ∷ (21, orderOf) ∷ (7, cancelOf) ∷ (11, matchOf) ∷ []
+
+-- 0 for an unknown kind, for which 3 is found before its body matters
+unfoldable pub lengthOf : ℕ → ℕ
+lengthOf kind = cond (eqb kind 0) 0 (getD kinds (kind - 1) (0, matchOf) .0)
+
 unfoldable pub eventOf : ℕ → List ℕ → Event
-eventOf kind b =
-    cond (eqb kind 1) (clockOf b)
-    (cond (eqb kind 2) (sessionOf b)
-    (cond (eqb kind 3) (setupOf b)
-    (cond (eqb kind 4) (pricesOf b)
-    (cond (eqb kind 5) (orderOf b)
-    (cond (eqb kind 6) (cancelOf b) (matchOf b))))))
+eventOf kind b = getD kinds (kind - 1) (0, matchOf) .1 b
 
--- conditions 2 and 3: "empty, or not the kind's length", "kind not 1 to 7"; "an unknown kind is found before a wrong length"
-unfoldable pub readEvent : List ℕ → Reading
-readEvent b =
-    cond (eqb (length b) 0) (Refused 2)
-    (cond (eqb (lengthOf (getD b 0 0)) 0) (Refused 3)
-    (cond (eqb (length b) (lengthOf (getD b 0 0))) (Whole (eventOf (getD b 0 0) b)) (Refused 2)))
+-- "An event is read whole": the event as its kind lays it out
+abbrev pub eventIn : List ℕ → Event
+eventIn b = eventOf (getD b 0 0) b
 
--- the customer and the security that an event names; 0 where it names none
-abbrev pub customerNamed : Event → ℕ
-customerNamed (event.Clock t) = 0
-customerNamed (event.Session s) = 0
-customerNamed (event.Setup x) = 0
-customerNamed (event.Prices x) = 0
-customerNamed (event.Order k x) = k
-customerNamed (event.Cancel k x) = k
-customerNamed (event.Match k x) = k
+-- the table's place "event bytes", conditions 2 and 3: "empty, or not the kind's length", "kind not 1 to 7"; "an unknown kind is found before a
+-- wrong length"
+abbrev pub bytesConditions : List ℕ → List (ℕ × Bool)
+bytesConditions b =
+    (2, eqb (length b) 0)
+    ∷ (3, eqb (lengthOf (getD b 0 0)) 0)
+    ∷ (2, not (eqb (length b) (lengthOf (getD b 0 0))))
+    ∷ []
 
-abbrev pub securityNamed : Event → ℕ
-securityNamed (event.Clock t) = 0
-securityNamed (event.Session s) = 0
-securityNamed (event.Setup x) = x .security
-securityNamed (event.Prices x) = x .security
-securityNamed (event.Order k x) = x .security
-securityNamed (event.Cancel k x) = 0
-securityNamed (event.Match k x) = 0
+-- the customer and the security that an event names, by its number; kind 2 names none and "reads all"
+pub data Named : Type 0 where
+  none : Named
+  one : ℕ → Named
+  every : Named
 
--- "Kinds 5 to 7 belong to the customer they name; 1 to 4 .. are market events. An event that meets condition 2 or 3 below, or one with a
--- customer of C or more, belongs to nobody."
+abbrev pub named : Event → Named × Named
+named (event.Clock t) = (none, none)
+named (event.Session s) = (every, every)
+named (event.Setup x) = (none, one (x .security))
+named (event.Prices x) = (none, one (x .security))
+named (event.Order k x) = (one k, one (x .security))
+named (event.Cancel k x) = (one k, none)
+named (event.Match k x) = (one k, none)
+
+abbrev pub customerNamed : Event → Named
+customerNamed e = named e .0
+
+abbrev pub securityNamed : Event → Named
+securityNamed e = named e .1
+
+-- "Kinds 5 to 7 belong to the customer they name; 1 to 4, and any later kind that names no customer, are market events. An event that meets
+-- condition 2 or 3 below, or one with a customer of C or more, belongs to nobody."
 pub data Owner : Type 0 where
   market : Owner
   customer : ℕ → Owner
   nobody : Owner
 
-abbrev pub customerBelow : ℕ → ℕ → Owner
-customerBelow customers k = cond (ltb k customers) (customer k) nobody
-
-abbrev pub ownerOfEvent : ℕ → Event → Owner
-ownerOfEvent customers (event.Clock t) = market
-ownerOfEvent customers (event.Session s) = market
-ownerOfEvent customers (event.Setup x) = market
-ownerOfEvent customers (event.Prices x) = market
-ownerOfEvent customers (event.Order k x) = customerBelow customers k
-ownerOfEvent customers (event.Cancel k x) = customerBelow customers k
-ownerOfEvent customers (event.Match k x) = customerBelow customers k
-
-abbrev pub ownerOfReading : ℕ → Reading → Owner
-ownerOfReading customers (Refused n) = nobody
-ownerOfReading customers (Whole e) = ownerOfEvent customers e
+abbrev pub ownerNamed : ℕ → Named → Owner
+ownerNamed customers none = market
+ownerNamed customers (one k) = cond (ltb k customers) (customer k) nobody
+ownerNamed customers every = market
 
 unfoldable pub ownerOf : ℕ → List ℕ → Owner
-ownerOf customers b = ownerOfReading customers (readEvent b)
+ownerOf customers b = cond (eqb (firstMet (bytesConditions b)) 0) (ownerNamed customers (customerNamed (eventIn b))) nobody

@@ -1,213 +1,166 @@
 -- The gate: words and an event's bytes to an answer and words; a history's answers and words.
-use mathlib.Core.Bool.{Bool, false, cond, _&&_, not}
-use mathlib.Core.List.{List, [], _∷_}
+use mathlib.Core.Bool.{Bool, true, cond, _&&_, not}
+use mathlib.Core.List.{List, [], _∷_, _++_}
 use Prim.Native.Nat.{ℕ}
 use lib.Dec.{eqb}
-use lib.ListN.{length, getD}
-use Rattle.definitions.specs.declared.Board.{Board}
-use Rattle.definitions.specs.declared.Security.{Security}
-use Rattle.definitions.specs.declared.Setup.{Setup}
+use lib.ListN.{length}
+use Rattle.definitions.specs.declared.Terms.{Terms}
+use Rattle.definitions.specs.declared.PriorPrices.{PriorPrices}
 use Rattle.definitions.specs.declared.Prices.{Prices}
+use Rattle.definitions.specs.declared.Security.{Security}
+use Rattle.definitions.specs.declared.Desk.{Desk}
+use Rattle.definitions.specs.declared.MarketView.{MarketView}
+use Rattle.definitions.specs.declared.Setup.{Setup}
+use Rattle.definitions.specs.declared.BoardPrices.{BoardPrices}
 use Rattle.definitions.specs.declared.Order.{Order}
 use Rattle.definitions.specs.declared.Event.{Event}
 use Rattle.definitions.specs.declared.Event.the-variants as event
-use Rattle.definitions.specs.declared.Reading.{Reading}
-use Rattle.definitions.specs.declared.Reading.the-variants as reading
 use Rattle.definitions.specs.declared.Verdict.{Verdict}
 use Rattle.definitions.specs.declared.Answer.{Answer}
 use Rattle.definitions.specs.declared.Answer.the-variants as answer
 use Rattle.definitions.specs.Codes.{foreignBoard}
-use Rattle.definitions.specs.Lists.{allBelow, each, put}
+use Rattle.definitions.specs.Lists.{allBelow, each, put, firstMet}
 use Rattle.definitions.specs.State.{headerOf, securityAt, deskAt, putSecurity, putDesk, stateFits, sizesFit, stateSize, fresh, clockPlace, sessionPlace}
 use Rattle.definitions.specs.Sound.{soundSecurity, soundDesk}
-use Rattle.definitions.specs.Events.{lengthOf, eventOf, readEvent, customerNamed, securityNamed}
-use Rattle.definitions.specs.Desks.{swept, cancelled, matched, ordered}
-use Rattle.definitions.specs.Rules.{verdictOf}
-use Rattle.definitions.specs.Refusals.{View, names, codes, prices, earlier, numberTaken, noOpenRow, matchVolume, deskFull, firstMet}
+use Rattle.definitions.specs.Events.{eventIn, bytesConditions, Named, none, one, every, customerNamed, securityNamed}
+use Rattle.definitions.specs.Desks.{sessionRow, cancelledRow, matchedRow, changed, ordered}
+use Rattle.definitions.specs.Rules.{View, verdictOf}
+use Rattle.definitions.specs.Refusals.{eventConditions}
 
--- an event is turned back with a number, and "all lent words stay equal"; or it is done, with an answer and the words after it
+-- an event is refused with a number, and "All lent words stay equal"; or it is done, with an answer and the words after it
 pub data Outcome : Type 0 where
-  turned : ℕ → Outcome
+  refused : ℕ → Outcome
   done : Answer → List ℕ → Outcome
 
 abbrev pub answerOf : Outcome → Answer
-answerOf (turned n) = answer.Refused n
+answerOf (refused n) = answer.Refused n
 answerOf (done a w) = a
 
 abbrev pub wordsOf : List ℕ → Outcome → List ℕ
-wordsOf w (turned n) = w
+wordsOf w (refused n) = w
 wordsOf w (done a x) = x
 
--- an answer and the words after it: what a call leaves, and what the outcome says
-pub record Result : Type 0 where
-  pub answer : Answer
-  pub words : List ℕ
+-- what a call leaves
+abbrev pub resultOf : List ℕ → Outcome → Answer × List ℕ
+resultOf w o = (answerOf o, wordsOf w o)
 
-abbrev pub result : Answer → List ℕ → Result
-result a w = record { answer = a; words = w }
+-- what an event meets: the session, the clock, and the security and the desk that it names
+abbrev pub marketViewAt : List ℕ → ℕ → MarketView
+marketViewAt w s = record { session = headerOf w .session; clock = headerOf w .clock; security = securityAt w s }
 
-abbrev pub resultOf : List ℕ → Outcome → Result
-resultOf w o = result (answerOf o) (wordsOf w o)
+abbrev pub viewAt : List ℕ → ℕ → ℕ → View
+viewAt w s k = record { market = marketViewAt w s; desk = deskAt w k }
 
-unfoldable pub viewOf : List ℕ → Event → View
-viewOf w e = record { header = headerOf w; security = securityAt w (securityNamed e); desk = deskAt w (customerNamed e) }
+-- 0 where no one is named: no condition and no rule asks for that record then
+abbrev pub numberOf : Named → ℕ
+numberOf none = 0
+numberOf (one i) = i
+numberOf every = 0
 
--- 8: "a record that this kind reads is not sound: 2 reads all; 3 and 4 the security; 5 the security and the desk; 6 and 7 the desk"
+abbrev pub viewOf : List ℕ → Event → View
+viewOf w e = viewAt w (numberOf (securityNamed e)) (numberOf (customerNamed e))
+
+-- 8: "a record that this kind reads is not sound: 2 reads all; 3 and 4 the security; 5 the security and the desk; 6 and 7 the desk": what it names
 abbrev pub soundSecurityAt : List ℕ → ℕ → Bool
 soundSecurityAt w s = soundSecurity (securityAt w s)
 
 abbrev pub soundDeskAt : List ℕ → ℕ → Bool
 soundDeskAt w k = soundDesk (headerOf w .securities) (headerOf w .clock) (deskAt w k)
 
-unfoldable pub allSound : List ℕ → Bool
-allSound w = allBelow (headerOf w .securities) (soundSecurityAt w) && allBelow (headerOf w .customers) (soundDeskAt w)
+abbrev pub soundNamed : ℕ → (ℕ → Bool) → Named → Bool
+soundNamed n p none = true
+soundNamed n p (one i) = p i
+soundNamed n p every = allBelow n p
 
-unfoldable pub unsound : List ℕ → Event → Bool
-unsound w (event.Clock t) = false
-unsound w (event.Session s) = not (allSound w)
-unsound w (event.Setup x) = not (soundSecurityAt w (x .security))
-unsound w (event.Prices x) = not (soundSecurityAt w (x .security))
-unsound w (event.Order k x) = not (soundSecurityAt w (x .security) && soundDeskAt w k)
-unsound w (event.Cancel k x) = not (soundDeskAt w k)
-unsound w (event.Match k x) = not (soundDeskAt w k)
+abbrev pub recordsSound : List ℕ → Event → Bool
+recordsSound w e =
+    soundNamed (headerOf w .securities) (soundSecurityAt w) (securityNamed e) && soundNamed (headerOf w .customers) (soundDeskAt w) (customerNamed e)
 
--- the table's order, for an event that was read whole in a state that fits
-unfoldable pub refusal : List ℕ → Event → ℕ
-refusal w e =
-    firstMet
-    ((4, names (headerOf w) e)
-    ∷ (5, codes e)
-    ∷ (6, prices e)
-    ∷ (7, earlier (headerOf w) e)
-    ∷ (8, unsound w e)
-    ∷ (9, numberTaken (viewOf w e) e)
-    ∷ (10, noOpenRow (viewOf w e) e)
-    ∷ (11, matchVolume (viewOf w e) e)
-    ∷ (12, deskFull (viewOf w e) e)
-    ∷ [])
+-- the whole table, from top to bottom; the conditions from 4 on speak of the event as the kind lays it out
+unfoldable pub conditions : List ℕ → List ℕ → List (ℕ × Bool)
+conditions w b =
+    (1, not (stateFits w))
+    ∷ (bytesConditions b ++ eventConditions (headerOf w) ((8, not (recordsSound w (eventIn b))) ∷ []) (viewOf w (eventIn b)) (eventIn b))
+
+abbrev pub security : Terms → PriorPrices → Prices → Prices → Security
+security terms prior main foreign = record { terms = terms; prior = prior; main = main; foreign = foreign }
 
 -- "Kinds 3 and 4 replace the fields they name."
 unfoldable pub afterSetup : Setup → Security → Security
-afterSetup x s =
-    record {
-      lot = x .lot;
-      free = x .free;
-      «first_day» = x .«first_day»;
-      «prior_close» = x .«prior_close»;
-      ipo = x .ipo;
-      main = s .main;
-      foreign = s .foreign;
-    }
+afterSetup x s = security (x .terms) (x .prior) (s .main) (s .foreign)
 
-abbrev pub withBoards : Board → Board → Security → Security
-withBoards main foreign s =
-    record {
-      lot = s .lot;
-      free = s .free;
-      «first_day» = s .«first_day»;
-      «prior_close» = s .«prior_close»;
-      ipo = s .ipo;
-      main = main;
-      foreign = foreign;
-    }
+abbrev pub withPrices : Prices → Prices → Security → Security
+withPrices main foreign s = security (s .terms) (s .prior) main foreign
 
-unfoldable pub afterPrices : Prices → Security → Security
+unfoldable pub afterPrices : BoardPrices → Security → Security
 afterPrices x s =
-    cond (eqb (x .board) foreignBoard) (withBoards (s .main) (x .prices) s) (withBoards (x .prices) (s .foreign) s)
+    cond (eqb (x .board) foreignBoard) (withPrices (s .main) (x .prices) s) (withPrices (x .prices) (s .foreign) s)
 
 -- "makes every projected price absent"
-abbrev pub noProjected : Board → Board
-noProjected b = record { projected = 0; «last_sale» = b .«last_sale»; bid = b .bid; offer = b .offer }
+abbrev pub noProjected : Prices → Prices
+noProjected p = record { projected = 0; «last_sale» = p .«last_sale»; bid = p .bid; offer = p .offer }
 
 unfoldable pub withoutProjected : Security → Security
-withoutProjected s = withBoards (noProjected (s .main)) (noProjected (s .foreign)) s
+withoutProjected s = withPrices (noProjected (s .main)) (noProjected (s .foreign)) s
 
-abbrev pub clearProjectedAt : ℕ → List ℕ → List ℕ
-clearProjectedAt s w = putSecurity w s (withoutProjected (securityAt w s))
+-- a record of a state, changed where it stands
+abbrev pub changeSecurity : (Security → Security) → ℕ → List ℕ → List ℕ
+changeSecurity f s w = putSecurity w s (f (securityAt w s))
 
-abbrev pub sweepDeskAt : ℕ → List ℕ → List ℕ
-sweepDeskAt k w = putDesk w k (swept (deskAt w k))
+abbrev pub changeDesk : (Desk → Desk) → ℕ → List ℕ → List ℕ
+changeDesk f k w = putDesk w k (f (deskAt w k))
 
 -- the market's side of a session change: the session, and every projected price absent
 unfoldable pub sessionMarket : ℕ → List ℕ → List ℕ
-sessionMarket session w = each (headerOf w .securities) clearProjectedAt (put w sessionPlace (session ∷ []))
+sessionMarket session w = each (headerOf w .securities) (changeSecurity withoutProjected) (put w sessionPlace (session ∷ []))
 
 -- "A session that differs from the present one removes all ATO and ATC rows and makes every projected price absent; the same session changes
 -- nothing."
 unfoldable pub afterSession : ℕ → List ℕ → List ℕ
 afterSession session w =
-    cond (eqb session (headerOf w .session)) w (each (headerOf w .customers) sweepDeskAt (sessionMarket session w))
-
-unfoldable pub afterClock : ℕ → List ℕ → List ℕ
-afterClock time w = put w clockPlace (time ∷ [])
+    cond (eqb session (headerOf w .session)) w (each (headerOf w .customers) (changeDesk (changed sessionRow)) (sessionMarket session w))
 
 abbrev pub verdictAt : List ℕ → ℕ → Order → Verdict
-verdictAt w k o = verdictOf (headerOf w .session) (headerOf w .clock) (securityAt w (o .security)) (deskAt w k) o
+verdictAt w k o = verdictOf (viewAt w (o .security) k) o
+
+-- an order's desk: counters and rows follow the verdict
+abbrev pub orderedAt : List ℕ → ℕ → Order → Desk
+orderedAt w k o = ordered (verdictAt w k o) (headerOf w .clock) o (deskAt w k)
 
 -- what an event that meets no condition does
 unfoldable pub perform : List ℕ → Event → Outcome
-perform w (event.Clock t) = done answer.Ok (afterClock t w)
+perform w (event.Clock t) = done answer.Ok (put w clockPlace (t ∷ []))
 perform w (event.Session s) = done answer.Ok (afterSession s w)
-perform w (event.Setup x) = done answer.Ok (putSecurity w (x .security) (afterSetup x (securityAt w (x .security))))
-perform w (event.Prices x) = done answer.Ok (putSecurity w (x .security) (afterPrices x (securityAt w (x .security))))
-perform w (event.Order k x) =
-    done (answer.Verdict (verdictAt w k x)) (putDesk w k (ordered (verdictAt w k x) (headerOf w .clock) x (deskAt w k)))
-perform w (event.Cancel k x) = done answer.Ok (putDesk w k (cancelled (x .number) (headerOf w .clock) (deskAt w k)))
-perform w (event.Match k x) = done answer.Ok (putDesk w k (matched (x .number) (x .volume) (deskAt w k)))
+perform w (event.Setup x) = done answer.Ok (changeSecurity (afterSetup x) (x .security) w)
+perform w (event.Prices x) = done answer.Ok (changeSecurity (afterPrices x) (x .security) w)
+perform w (event.Order k x) = done (answer.Verdict (verdictAt w k x)) (putDesk w k (orderedAt w k x))
+perform w (event.Cancel k x) = done answer.Ok (changeDesk (changed (cancelledRow (x .number) (headerOf w .clock))) k w)
+perform w (event.Match k x) = done answer.Ok (changeDesk (changed (matchedRow (x .number) (x .volume))) k w)
 
-abbrev pub turnedOr : ℕ → Outcome → Outcome
-turnedOr n o = cond (eqb n 0) o (turned n)
+abbrev pub refusedOr : ℕ → Outcome → Outcome
+refusedOr n o = cond (eqb n 0) o (refused n)
 
-unfoldable pub stepEvent : List ℕ → Event → Outcome
-stepEvent w e = turnedOr (refusal w e) (perform w e)
-
-abbrev pub stepReading : List ℕ → Reading → Outcome
-stepReading w (reading.Refused n) = turned n
-stepReading w (reading.Whole e) = stepEvent w e
-
--- one event's bytes handed to the gate over lent words
-unfoldable pub step : List ℕ → List ℕ → Outcome
-step w b = cond (stateFits w) (stepReading w (readEvent b)) (turned 1)
-
--- the whole table, from top to bottom, "but an unknown kind is found before a wrong length"; conditions 4 to 12 speak of the event as the kind
--- lays it out. That the gate answers with the first that is met is a theorem (proofs/Demands.antt).
-abbrev pub eventIn : List ℕ → Event
-eventIn b = eventOf (getD b 0 0) b
-
-unfoldable pub conditions : List ℕ → List ℕ → List (ℕ × Bool)
-conditions w b =
-    (1, not (stateFits w))
-    ∷ (2, eqb (length b) 0)
-    ∷ (3, eqb (lengthOf (getD b 0 0)) 0)
-    ∷ (2, not (eqb (length b) (lengthOf (getD b 0 0))))
-    ∷ (4, names (headerOf w) (eventIn b))
-    ∷ (5, codes (eventIn b))
-    ∷ (6, prices (eventIn b))
-    ∷ (7, earlier (headerOf w) (eventIn b))
-    ∷ (8, unsound w (eventIn b))
-    ∷ (9, numberTaken (viewOf w (eventIn b)) (eventIn b))
-    ∷ (10, noOpenRow (viewOf w (eventIn b)) (eventIn b))
-    ∷ (11, matchVolume (viewOf w (eventIn b)) (eventIn b))
-    ∷ (12, deskFull (viewOf w (eventIn b)) (eventIn b))
-    ∷ []
+-- one event's bytes handed to the gate over lent words: the number found first, or what the event does
+unfoldable pub outcome : List ℕ → List ℕ → Outcome
+outcome w b = refusedOr (firstMet (conditions w b)) (perform w (eventIn b))
 
 -- making a fresh state in lent words: "C, S, word count .. not as above (also on making a fresh state)"
 unfoldable pub made : List ℕ → ℕ → ℕ → Outcome
 made w customers securities =
-    cond (sizesFit customers securities && eqb (length w) (stateSize customers securities)) (done answer.Ok (fresh customers securities)) (turned 1)
+    cond (sizesFit customers securities && eqb (length w) (stateSize customers securities)) (done answer.Ok (fresh customers securities)) (refused 1)
 
 -- "A history is a list of events from a fresh state .. one call an event, and meets the words that the last call left"
-abbrev pub stepWords : List ℕ → List ℕ → List ℕ
-stepWords w b = wordsOf w (step w b)
+abbrev pub eventWords : List ℕ → List ℕ → List ℕ
+eventWords w b = wordsOf w (outcome w b)
 
-abbrev pub stepAnswer : List ℕ → List ℕ → Answer
-stepAnswer w b = answerOf (step w b)
+abbrev pub eventAnswer : List ℕ → List ℕ → Answer
+eventAnswer w b = answerOf (outcome w b)
 
 unfoldable pub wordsAfter : List ℕ → List (List ℕ) → List ℕ
 wordsAfter w [] = w
-wordsAfter w (b ∷ bs) = wordsAfter (stepWords w b) bs
+wordsAfter w (b ∷ bs) = wordsAfter (eventWords w b) bs
 
 -- the answers to those events of a history that a test picks, in order
 unfoldable pub answersTo : (List ℕ → Bool) → List ℕ → List (List ℕ) → List Answer
 answersTo p w [] = []
-answersTo p w (b ∷ bs) = cond (p b) (stepAnswer w b ∷ answersTo p (stepWords w b) bs) (answersTo p (stepWords w b) bs)
+answersTo p w (b ∷ bs) = cond (p b) (eventAnswer w b ∷ answersTo p (eventWords w b) bs) (answersTo p (eventWords w b) bs)

@@ -4,10 +4,6 @@ use mathlib.Core.List.{List, [], _∷_, _++_}
 use Prim.Native.Nat.{ℕ, zero, suc, _+_}
 use lib.ListN.{length, take, drop}
 
-abbrev pub bit : Bool → ℕ
-bit true = 1
-bit false = 0
-
 module _ {A : Type 0} where
   unfoldable pub any : (A → Bool) → List A → Bool
   any p [] = false
@@ -17,13 +13,17 @@ module _ {A : Type 0} where
   all p [] = true
   all p (x ∷ xs) = p x && all p xs
 
-  unfoldable pub count : (A → Bool) → List A → ℕ
-  count p [] = 0
-  count p (x ∷ xs) = bit (p x) + count p xs
-
   unfoldable pub keep : (A → Bool) → List A → List A
   keep p [] = []
   keep p (x ∷ xs) = cond (p x) (x ∷ keep p xs) (keep p xs)
+
+  unfoldable pub count : (A → Bool) → List A → ℕ
+  count p xs = length (keep p xs)
+
+-- numbered tests, from top to bottom: the number of the first that is met; 0 where none is
+unfoldable pub firstMet : List (ℕ × Bool) → ℕ
+firstMet [] = 0
+firstMet (c ∷ cs) = cond (c .1) (c .0) (firstMet cs)
 
 -- p holds of every number below n
 unfoldable pub allBelow : ℕ → (ℕ → Bool) → Bool

@@ -1,6 +1,6 @@
 -- Paper 01, "The lone run".
 use mathlib.Core.Bool.{Bool, true, false, cond}
-use mathlib.Core.List.{List, [], _∷_}
+use mathlib.Core.List.{List, [], _∷_, _++_}
 use Prim.Native.Nat.{ℕ}
 use lib.Dec.{eqb}
 use lib.ListN.{take}
@@ -8,18 +8,16 @@ use Rattle.definitions.specs.declared.Desk.{Desk}
 use Rattle.definitions.specs.declared.Order.{Order}
 use Rattle.definitions.specs.declared.Event.{Event}
 use Rattle.definitions.specs.declared.Event.the-variants as event
-use Rattle.definitions.specs.declared.Reading.{Reading}
-use Rattle.definitions.specs.declared.Reading.the-variants as reading
 use Rattle.definitions.specs.declared.Verdict.{Verdict}
 use Rattle.definitions.specs.declared.Answer.{Answer}
 use Rattle.definitions.specs.declared.Answer.the-variants as answer
-use Rattle.definitions.specs.Lists.{part}
-use Rattle.definitions.specs.State.{headerOf, securityAt, putSecurity, freshMarket, securityPlace, deskPlace, deskSize}
-use Rattle.definitions.specs.Events.{readEvent, securityNamed, Owner, market, customer, nobody, ownerOf}
-use Rattle.definitions.specs.Desks.{freshDesk, swept, cancelled, matched, ordered}
-use Rattle.definitions.specs.Rules.{verdictOf}
-use Rattle.definitions.specs.Refusals.{View, names, codes, prices, earlier, numberTaken, noOpenRow, matchVolume, deskFull, firstMet}
-use Rattle.definitions.specs.Gate.{afterClock, afterSetup, afterPrices, sessionMarket}
+use Rattle.definitions.specs.Lists.{part, put, firstMet}
+use Rattle.definitions.specs.State.{clockPlace, headerOf, freshMarket, securityPlace, deskPlace, deskSize}
+use Rattle.definitions.specs.Events.{eventIn, bytesConditions, securityNamed, Owner, market, customer, nobody, ownerOf}
+use Rattle.definitions.specs.Desks.{freshDesk, sessionRow, cancelledRow, matchedRow, changed, ordered}
+use Rattle.definitions.specs.Rules.{View, verdictOf}
+use Rattle.definitions.specs.Refusals.{eventConditions}
+use Rattle.definitions.specs.Gate.{marketViewAt, numberOf, changeSecurity, afterSetup, afterPrices, sessionMarket}
 
 -- "It holds the market's words (header and security records) and one desk"
 pub record Lone : Type 0 where
@@ -30,83 +28,62 @@ pub record Lone : Type 0 where
 abbrev pub loneFresh : ℕ → ℕ → Lone
 loneFresh customers securities = record { market = freshMarket customers securities; desk = freshDesk }
 
-abbrev pub loneView : Lone → Event → View
-loneView l e = record { header = headerOf (l .market); security = securityAt (l .market) (securityNamed e); desk = l .desk }
+abbrev pub loneView : Lone → ℕ → View
+loneView l s = record { market = marketViewAt (l .market) s; desk = l .desk }
 
--- "An event that meets conditions of the table above gets the number found first and changes nothing (1 and 8 never arise here)."
-unfoldable pub loneRefusal : Lone → Event → ℕ
-loneRefusal l e =
-    firstMet
-    ((4, names (headerOf (l .market)) e)
-    ∷ (5, codes e)
-    ∷ (6, prices e)
-    ∷ (7, earlier (headerOf (l .market)) e)
-    ∷ (9, numberTaken (loneView l e) e)
-    ∷ (10, noOpenRow (loneView l e) e)
-    ∷ (11, matchVolume (loneView l e) e)
-    ∷ (12, deskFull (loneView l e) e)
-    ∷ [])
+-- the table above, without 1 and 8, which "never arise here"
+unfoldable pub loneConditions : Lone → List ℕ → List (ℕ × Bool)
+loneConditions l b =
+    bytesConditions b ++ eventConditions (headerOf (l .market)) [] (loneView l (numberOf (securityNamed (eventIn b)))) (eventIn b)
 
-pub record LoneStep : Type 0 where
-  pub answer : Answer
-  pub after : Lone
-
-abbrev pub loneDone : Answer → List ℕ → Desk → LoneStep
-loneDone a w d = record { answer = a; after = record { market = w; desk = d } }
+-- an answer, and what the lone run holds after it
+abbrev pub loneDone : Answer → List ℕ → Desk → Answer × Lone
+loneDone a w d = (a, record { market = w; desk = d })
 
 abbrev pub loneVerdict : Lone → Order → Verdict
-loneVerdict l o =
-    verdictOf (headerOf (l .market) .session) (headerOf (l .market) .clock) (securityAt (l .market) (o .security)) (l .desk) o
+loneVerdict l o = verdictOf (loneView l (o .security)) o
 
 -- "Kind 2 with another session sets it, makes each projected price absent and removes the desk's ATO and ATC rows."
-abbrev pub loneSession : Lone → ℕ → LoneStep
+abbrev pub loneSession : Lone → ℕ → Answer × Lone
 loneSession l s =
     cond (eqb s (headerOf (l .market) .session)) (loneDone answer.Ok (l .market) (l .desk))
-    (loneDone answer.Ok (sessionMarket s (l .market)) (swept (l .desk)))
+    (loneDone answer.Ok (sessionMarket s (l .market)) (changed sessionRow (l .desk)))
 
 -- "Kind 1 sets the clock. .. Kinds 3 and 4 set the fields they name. The answer is ok. Kind 5 gets the first verdict that applies; .. Kind 6 ..
 -- Kind 7 .. The answer is ok."
-unfoldable pub lonePerform : Lone → Event → LoneStep
-lonePerform l (event.Clock t) = loneDone answer.Ok (afterClock t (l .market)) (l .desk)
+unfoldable pub lonePerform : Lone → Event → Answer × Lone
+lonePerform l (event.Clock t) = loneDone answer.Ok (put (l .market) clockPlace (t ∷ [])) (l .desk)
 lonePerform l (event.Session s) = loneSession l s
-lonePerform l (event.Setup x) =
-    loneDone answer.Ok (putSecurity (l .market) (x .security) (afterSetup x (securityAt (l .market) (x .security)))) (l .desk)
-lonePerform l (event.Prices x) =
-    loneDone answer.Ok (putSecurity (l .market) (x .security) (afterPrices x (securityAt (l .market) (x .security)))) (l .desk)
+lonePerform l (event.Setup x) = loneDone answer.Ok (changeSecurity (afterSetup x) (x .security) (l .market)) (l .desk)
+lonePerform l (event.Prices x) = loneDone answer.Ok (changeSecurity (afterPrices x) (x .security) (l .market)) (l .desk)
 lonePerform l (event.Order k x) =
     loneDone (answer.Verdict (loneVerdict l x)) (l .market) (ordered (loneVerdict l x) (headerOf (l .market) .clock) x (l .desk))
-lonePerform l (event.Cancel k x) = loneDone answer.Ok (l .market) (cancelled (x .number) (headerOf (l .market) .clock) (l .desk))
-lonePerform l (event.Match k x) = loneDone answer.Ok (l .market) (matched (x .number) (x .volume) (l .desk))
+lonePerform l (event.Cancel k x) = loneDone answer.Ok (l .market) (changed (cancelledRow (x .number) (headerOf (l .market) .clock)) (l .desk))
+lonePerform l (event.Match k x) = loneDone answer.Ok (l .market) (changed (matchedRow (x .number) (x .volume)) (l .desk))
 
-abbrev pub loneTurned : Lone → ℕ → LoneStep
-loneTurned l n = record { answer = answer.Refused n; after = l }
+abbrev pub loneRefusedOr : ℕ → Lone → (Answer × Lone) → Answer × Lone
+loneRefusedOr n l o = cond (eqb n 0) o (loneDone (answer.Refused n) (l .market) (l .desk))
 
-unfoldable pub loneEvent : Lone → Event → LoneStep
-loneEvent l e = cond (eqb (loneRefusal l e) 0) (lonePerform l e) (loneTurned l (loneRefusal l e))
-
-abbrev pub loneReading : Lone → Reading → LoneStep
-loneReading l (reading.Refused n) = loneTurned l n
-loneReading l (reading.Whole e) = loneEvent l e
-
-unfoldable pub loneStep : Lone → List ℕ → LoneStep
-loneStep l b = loneReading l (readEvent b)
+-- "An event that meets conditions of the table above gets the number found first and changes nothing .. Else: .."
+unfoldable pub loneOutcome : Lone → List ℕ → Answer × Lone
+loneOutcome l b = loneRefusedOr (firstMet (loneConditions l b)) l (lonePerform l (eventIn b))
 
 unfoldable pub loneAfter : Lone → List (List ℕ) → Lone
 loneAfter l [] = l
-loneAfter l (b ∷ bs) = loneAfter (loneStep l b .after) bs
+loneAfter l (b ∷ bs) = loneAfter (loneOutcome l b .1) bs
 
 unfoldable pub loneAnswers : Lone → List (List ℕ) → List Answer
 loneAnswers l [] = []
-loneAnswers l (b ∷ bs) = loneStep l b .answer ∷ loneAnswers (loneStep l b .after) bs
+loneAnswers l (b ∷ bs) = loneOutcome l b .0 ∷ loneAnswers (loneOutcome l b .1) bs
 
--- the events that the lone run of k is fed: "the history's market events and k's own"
+-- the events that the lone run of k is fed: "the history's market events and of k's own"
 abbrev pub fedTo : ℕ → Owner → Bool
 fedTo k market = true
 fedTo k (customer j) = eqb j k
 fedTo k nobody = false
 
-unfoldable pub concerns : ℕ → ℕ → List ℕ → Bool
-concerns customers k b = fedTo k (ownerOf customers b)
+unfoldable pub isFed : ℕ → ℕ → List ℕ → Bool
+isFed customers k b = fedTo k (ownerOf customers b)
 
 -- what is compared of a state: "the market's words and every word of k's desk"
 unfoldable pub marketWords : List ℕ → List ℕ

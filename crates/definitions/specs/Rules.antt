@@ -1,65 +1,59 @@
--- Paper 01, "Verdicts, first that applies". A rule is given the market's side (session, clock, one security), one desk and the order.
+-- Paper 01, "Verdicts, first that applies".
 use mathlib.Core.Bool.{Bool, cond, _&&_, _||_, not}
 use mathlib.Core.List.{List, [], _∷_}
 use Prim.Native.Nat.{ℕ, _+_, _*_, _%_}
 use lib.Dec.{leb, ltb, eqb}
-use Rattle.ladder.specs.declared.Position.{Position}
-use Rattle.ladder.specs.declared.Position.the-variants.{At, Off}
-use Rattle.ladder.specs.Ladder.{positionOf}
-use Rattle.definitions.specs.declared.Board.{Board}
+use Rattle.ladder.specs.Ladder.{positionOf, positionNumber}
+use Rattle.definitions.specs.declared.Prices.{Prices}
 use Rattle.definitions.specs.declared.Security.{Security}
 use Rattle.definitions.specs.declared.Row.{Row}
 use Rattle.definitions.specs.declared.Desk.{Desk}
+use Rattle.definitions.specs.declared.MarketView.{MarketView}
 use Rattle.definitions.specs.declared.Order.{Order}
 use Rattle.definitions.specs.declared.Verdict.{Verdict}
 use Rattle.definitions.specs.declared.Verdict.the-variants as verdict
-use Rattle.definitions.specs.Codes.{closed, preOpen, opened, break, preClose, mainBoard, foreignBoard, buy, limit, ato, atc, mp, online, dma, mostVolume}
-use Rattle.definitions.specs.Desks.{isOpen, recent}
+use Rattle.definitions.specs.Codes.{closed, preOpen, opened, break, preClose, inAuction, mainBoard, foreignBoard, buy, sell, ato, atc, mp, isLimit, isAuction, online, dma, maxVolume}
+use Rattle.definitions.specs.Desks.{isOpen, cancelledInMinute}
 use Rattle.definitions.specs.Lists.{any}
 
+-- what a rule may see: the market's side (session, clock, one security) and one desk; no customer's number
+pub record View : Type 0 where
+  pub market : MarketView
+  pub desk : Desk
+
 -- the four prices of the order's own board
-abbrev pub boardNamed : Security → ℕ → Board
-boardNamed s board = cond (eqb board foreignBoard) (s .foreign) (s .main)
+abbrev pub pricesOn : Security → ℕ → Prices
+pricesOn s board = cond (eqb board foreignBoard) (s .foreign) (s .main)
 
 -- "0 means absent": the first price, else the second
 abbrev pub orElse : ℕ → ℕ → ℕ
 orElse a b = cond (eqb a 0) b a
-
-abbrev pub isLimit : ℕ → Bool
-isLimit ordtype = eqb ordtype limit
-
-abbrev pub isAuction : ℕ → Bool
-isAuction ordtype = eqb ordtype ato || eqb ordtype atc
-
--- "sessions 1 and 4"
-abbrev pub inAuction : ℕ → Bool
-inAuction session = eqb session preOpen || eqb session preClose
 
 -- in satang
 abbrev pub valueOf : Order → ℕ
 valueOf o = o .price * o .volume
 
 -- "best price opposite": the offer for a buy, the bid for a sell
-abbrev pub bestOpposite : Board → ℕ → ℕ
-bestOpposite b side = cond (eqb side buy) (b .offer) (b .bid)
+abbrev pub bestOpposite : Prices → ℕ → ℕ
+bestOpposite p side = cond (eqb side buy) (p .offer) (p .bid)
 
 -- S: "session 0 or 3; ATO outside 1; ATC outside 4; MP outside 2; MP with no best price opposite on its board"
-unfoldable pub ruleS : ℕ → Security → Order → Bool
-ruleS session s o =
-    eqb session closed
-    || eqb session break
-    || eqb (o .ordtype) ato && not (eqb session preOpen)
-    || eqb (o .ordtype) atc && not (eqb session preClose)
-    || eqb (o .ordtype) mp && not (eqb session opened)
-    || eqb (o .ordtype) mp && eqb (bestOpposite (boardNamed s (o .board)) (o .side)) 0
+unfoldable pub ruleS : MarketView → Order → Bool
+ruleS m o =
+    eqb (m .session) closed
+    || eqb (m .session) break
+    || eqb (o .«order_type») ato && not (eqb (m .session) preOpen)
+    || eqb (o .«order_type») atc && not (eqb (m .session) preClose)
+    || eqb (o .«order_type») mp && not (eqb (m .session) opened)
+    || eqb (o .«order_type») mp && eqb (bestOpposite (pricesOn (m .security) (o .board)) (o .side)) 0
 
 -- V: "volume 0, over 20,000,000 or no multiple of the lot; limit value over 500 million baht"
-unfoldable pub ruleV : Security → Order → Bool
-ruleV s o =
+unfoldable pub ruleV : MarketView → Order → Bool
+ruleV m o =
     eqb (o .volume) 0
-    || ltb mostVolume (o .volume)
-    || not (eqb (o .volume % s .lot) 0)
-    || isLimit (o .ordtype) && ltb 50_000_000_000 (valueOf o)
+    || ltb maxVolume (o .volume)
+    || not (eqb (o .volume % m .security .terms .lot) 0)
+    || isLimit (o .«order_type») && ltb 50_000_000_000 (valueOf o)
 
 -- "on the foreign board else the main board's last sale"
 abbrev pub mainLastSale : Security → ℕ → ℕ
@@ -67,58 +61,63 @@ mainLastSale s board = cond (eqb board foreignBoard) (s .main .«last_sale») 0
 
 -- "the IPO price if first day and not 0"
 abbrev pub firstDayIpo : Security → ℕ
-firstDayIpo s = cond (eqb (s .«first_day») 1) (s .ipo) 0
+firstDayIpo s = cond (eqb (s .terms .«first_day») 1) (s .prior .ipo) 0
 
 -- Q: "Reference: projected, else last sale; on the foreign board else the main board's last sale; else the IPO price if first day and not 0"
 abbrev pub referenceQ : Security → ℕ → ℕ
 referenceQ s board =
-    orElse (boardNamed s board .projected) (orElse (boardNamed s board .«last_sale») (orElse (mainLastSale s board) (firstDayIpo s)))
+    orElse (pricesOn s board .projected) (orElse (pricesOn s board .«last_sale») (orElse (mainLastSale s board) (firstDayIpo s)))
 
--- "above 150% or below 50% of the reference"; no reference, "no check"
-abbrev pub outside50 : ℕ → ℕ → Bool
-outside50 reference price = not (eqb reference 0) && (ltb (150 * reference) (100 * price) || ltb (100 * price) (50 * reference))
+-- "above .. % or below .. % of the reference"; no reference, "no check"
+abbrev pub outside : ℕ → ℕ → ℕ → ℕ → Bool
+outside low high reference price = not (eqb reference 0) && (ltb (high * reference) (100 * price) || ltb (100 * price) (low * reference))
 
--- "limits, sessions 1 and 4, free security, every channel"
-unfoldable pub ruleQ : ℕ → Security → Order → Bool
-ruleQ session s o =
-    isLimit (o .ordtype) && inAuction session && eqb (s .free) 1 && outside50 (referenceQ s (o .board)) (o .price)
-
--- a buy at the other price or above, a sell at it or below
-abbrev pub reaches : ℕ → ℕ → ℕ → Bool
-reaches side price other = eqb side buy && leb other price || not (eqb side buy) && leb price other
+-- "limits, sessions 1 and 4, free security, every channel: price above 150% or below 50% of the reference"
+unfoldable pub ruleQ : MarketView → Order → Bool
+ruleQ m o =
+    isLimit (o .«order_type»)
+    && inAuction (m .session)
+    && eqb (m .security .terms .free) 1
+    && outside 50 150 (referenceQ (m .security) (o .board)) (o .price)
 
 -- W: "the customer's own open rows of that security and board, opposite side, however entered"
 abbrev pub ownOpposite : Order → Row → Bool
 ownOpposite o r =
     isOpen r && eqb (r .security) (o .security) && eqb (r .board) (o .board) && not (eqb (r .side) (o .side))
 
--- "With a projected price, in sessions 1 and 4": a limit that reaches it against ATO or ATC, and ATO or ATC against an own limit that reaches it
-abbrev pub meetsAtProjected : ℕ → ℕ → Order → Row → Bool
-meetsAtProjected session projected o r =
-    inAuction session
-    && not (eqb projected 0)
-    && (isLimit (o .ordtype) && reaches (o .side) (o .price) projected && isAuction (r .ordtype)
-    || isAuction (o .ordtype) && isLimit (r .ordtype) && reaches (r .side) (r .price) projected)
+-- "limit buy at or above it against an own ATO or ATC sell, and ATO or ATC buy against an own limit sell at or below it; limit sell at or below it
+-- against an own ATO or ATC buy, and ATO or ATC sell against an own limit buy at or above it"
+abbrev pub wouldTradeAtProjected : ℕ → Order → Row → Bool
+wouldTradeAtProjected projected o r =
+    isLimit (o .«order_type») && eqb (o .side) buy && leb projected (o .price) && isAuction (r .«order_type»)
+    || isAuction (o .«order_type») && eqb (o .side) buy && isLimit (r .«order_type») && leb (r .price) projected
+    || isLimit (o .«order_type») && eqb (o .side) sell && leb (o .price) projected && isAuction (r .«order_type»)
+    || isAuction (o .«order_type») && eqb (o .side) sell && isLimit (r .«order_type») && leb projected (r .price)
 
--- "Limit buy at or above an own limit sell; limit sell at or below an own limit buy. ATO or ATC against ATO or ATC. .. MP buy if the best
--- offer equals an own limit sell's price; MP sell likewise with the bid."
-unfoldable pub ownMatch : ℕ → Board → Order → Row → Bool
-ownMatch session b o r =
-    ownOpposite o r
-    && (isLimit (o .ordtype) && isLimit (r .ordtype) && reaches (o .side) (o .price) (r .price)
-    || isAuction (o .ordtype) && isAuction (r .ordtype)
-    || meetsAtProjected session (b .projected) o r
-    || eqb (o .ordtype) mp && isLimit (r .ordtype) && eqb (bestOpposite b (o .side)) (r .price))
+-- "Limit buy at or above an own limit sell; limit sell at or below an own limit buy. ATO or ATC against ATO or ATC. With a projected price, in
+-- sessions 1 and 4: .. MP buy if the best offer equals an own limit sell's price; MP sell likewise with the bid."
+abbrev pub wouldTrade : ℕ → Prices → Order → Row → Bool
+wouldTrade session p o r =
+    isLimit (o .«order_type») && eqb (o .side) buy && isLimit (r .«order_type») && leb (r .price) (o .price)
+    || isLimit (o .«order_type») && eqb (o .side) sell && isLimit (r .«order_type») && leb (o .price) (r .price)
+    || isAuction (o .«order_type») && isAuction (r .«order_type»)
+    || inAuction session && not (eqb (p .projected) 0) && wouldTradeAtProjected (p .projected) o r
+    || eqb (o .«order_type») mp && eqb (o .side) buy && isLimit (r .«order_type») && eqb (p .offer) (r .price)
+    || eqb (o .«order_type») mp && eqb (o .side) sell && isLimit (r .«order_type») && eqb (p .bid) (r .price)
+
+unfoldable pub tradesWithOwn : ℕ → Prices → Order → Row → Bool
+tradesWithOwn session p o r = ownOpposite o r && wouldTrade session p o r
 
 -- "online only"
-unfoldable pub ruleW : ℕ → Security → Desk → Order → Bool
-ruleW session s d o = eqb (o .channel) online && any (ownMatch session (boardNamed s (o .board)) o) (d .rows)
+unfoldable pub ruleW : View → Order → Bool
+ruleW v o =
+    eqb (o .channel) online && any (tradesWithOwn (v .market .session) (pricesOn (v .market .security) (o .board)) o) (v .desk .rows)
 
 -- P: "an own row cancelled at most 60,000 ms ago with the same security, board, side and price, twice the new volume being at least the
 -- cancelled volume"
-unfoldable pub recalled : ℕ → Order → Row → Bool
-recalled clock o r =
-    recent clock r
+unfoldable pub reenters : ℕ → Order → Row → Bool
+reenters clock o r =
+    cancelledInMinute clock r
     && eqb (r .security) (o .security)
     && eqb (r .board) (o .board)
     && eqb (r .side) (o .side)
@@ -126,62 +125,57 @@ recalled clock o r =
     && leb (r .volume) (2 * o .volume)
 
 -- "limits, online, session 2: value at least 3 million baht"
-unfoldable pub ruleP : ℕ → ℕ → Desk → Order → Bool
-ruleP session clock d o =
-    isLimit (o .ordtype)
+unfoldable pub ruleP : View → Order → Bool
+ruleP v o =
+    isLimit (o .«order_type»)
     && eqb (o .channel) online
-    && eqb session opened
+    && eqb (v .market .session) opened
     && leb 300_000_000 (valueOf o)
-    && any (recalled clock o) (d .rows)
+    && any (reenters (v .market .clock) o) (v .desk .rows)
 
 -- warn 30: "the last sale (foreign board: else the main board's); none, no check"
 abbrev pub reference30 : Security → ℕ → ℕ
-reference30 s board = orElse (boardNamed s board .«last_sale») (mainLastSale s board)
+reference30 s board = orElse (pricesOn s board .«last_sale») (mainLastSale s board)
 
--- "above 130% or below 70%"
-abbrev pub outside30 : ℕ → ℕ → Bool
-outside30 reference price = not (eqb reference 0) && (ltb (130 * reference) (100 * price) || ltb (100 * price) (70 * reference))
-
--- "limits, session 2, free"
-unfoldable pub warn30 : ℕ → Security → Order → Bool
-warn30 session s o =
-    isLimit (o .ordtype) && eqb session opened && eqb (s .free) 1 && outside30 (reference30 s (o .board)) (o .price)
+-- "limits, session 2, free: above 130% or below 70%"
+unfoldable pub warn30 : MarketView → Order → Bool
+warn30 m o =
+    isLimit (o .«order_type»)
+    && eqb (m .session) opened
+    && eqb (m .security .terms .free) 1
+    && outside 70 130 (reference30 (m .security) (o .board)) (o .price)
 
 -- warn 10: "from the projected price, else last sale, else prior close; none, no check"
 abbrev pub reference10 : Security → ℕ
-reference10 s = orElse (s .main .projected) (orElse (s .main .«last_sale») (s .«prior_close»))
-
-abbrev pub positionNumber : Position → ℕ
-positionNumber (At k) = k
-positionNumber Off = 0
+reference10 s = orElse (s .main .projected) (orElse (s .main .«last_sale») (s .prior .close))
 
 -- "more than 10 ladder positions"
 abbrev pub tenApart : ℕ → ℕ → Bool
 tenApart j k = ltb (j + 10) k || ltb (k + 10) j
 
 -- "limits, main board, sessions 1 and 4, online and DMA"
-unfoldable pub warn10 : ℕ → Security → Order → Bool
-warn10 session s o =
-    isLimit (o .ordtype)
+unfoldable pub warn10 : MarketView → Order → Bool
+warn10 m o =
+    isLimit (o .«order_type»)
     && eqb (o .board) mainBoard
-    && inAuction session
+    && inAuction (m .session)
     && (eqb (o .channel) online || eqb (o .channel) dma)
-    && not (eqb (reference10 s) 0)
-    && tenApart (positionNumber (positionOf (reference10 s))) (positionNumber (positionOf (o .price)))
+    && not (eqb (reference10 (m .security)) 0)
+    && tenApart (positionNumber (positionOf (reference10 (m .security)))) (positionNumber (positionOf (o .price)))
 
 -- "first that applies .. Else accept."
 abbrev pub firstThat : List (Bool × Verdict) → Verdict
 firstThat [] = verdict.Accept
 firstThat (c ∷ cs) = cond (c .0) (c .1) (firstThat cs)
 
-unfoldable pub verdictOf : ℕ → ℕ → Security → Desk → Order → Verdict
-verdictOf session clock s d o =
+unfoldable pub verdictOf : View → Order → Verdict
+verdictOf v o =
     firstThat
-    ((ruleS session s o, verdict.RejectS)
-    ∷ (ruleV s o, verdict.RejectV)
-    ∷ (ruleQ session s o, verdict.RejectQ)
-    ∷ (ruleW session s d o, verdict.RejectW)
-    ∷ (ruleP session clock d o, verdict.RejectP)
-    ∷ (warn30 session s o, verdict.Warn30)
-    ∷ (warn10 session s o, verdict.Warn10)
+    ((ruleS (v .market) o, verdict.RejectS)
+    ∷ (ruleV (v .market) o, verdict.RejectV)
+    ∷ (ruleQ (v .market) o, verdict.RejectQ)
+    ∷ (ruleW v o, verdict.RejectW)
+    ∷ (ruleP v o, verdict.RejectP)
+    ∷ (warn30 (v .market) o, verdict.Warn30)
+    ∷ (warn10 (v .market) o, verdict.Warn10)
     ∷ [])

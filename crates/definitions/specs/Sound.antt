@@ -5,60 +5,49 @@ use Prim.Native.Nat.{ℕ}
 use lib.Dec.{leb, ltb, eqb}
 use Rattle.ladder.specs.Bands.{lastPrice}
 use Rattle.ladder.specs.Ladder.{legal}
-use Rattle.definitions.specs.declared.Board.{Board}
+use Rattle.definitions.specs.declared.Terms.{Terms}
+use Rattle.definitions.specs.declared.PriorPrices.{PriorPrices}
+use Rattle.definitions.specs.declared.Prices.{Prices}
 use Rattle.definitions.specs.declared.Security.{Security}
 use Rattle.definitions.specs.declared.Row.{Row}
 use Rattle.definitions.specs.declared.Desk.{Desk}
-use Rattle.definitions.specs.Codes.{freeMark, openMark, cancelledMark, foreignBoard, sell, limit, atc, mostVolume}
+use Rattle.definitions.specs.Codes.{freeMark, openMark, cancelledMark, foreignBoard, sell, atc, isLimit, maxVolume}
 use Rattle.definitions.specs.Lists.{any, all}
+use Rattle.definitions.specs.State.{rowWords}
 
--- "prices are absent or on the ladder"
+-- "lot (1, 50 or 100)", flags: "lot and flags have listed values"
+abbrev pub soundTerms : Terms → Bool
+soundTerms t = (eqb (t .lot) 1 || eqb (t .lot) 50 || eqb (t .lot) 100) && leb (t .free) 1 && leb (t .«first_day») 1
+
+-- "prices are absent or on the ladder (IPO: 0 to 10,000,000)"
 abbrev pub priceOrAbsent : ℕ → Bool
 priceOrAbsent p = eqb p 0 || legal p
 
-abbrev pub soundBoard : Board → Bool
-soundBoard b = priceOrAbsent (b .projected) && priceOrAbsent (b .«last_sale») && priceOrAbsent (b .bid) && priceOrAbsent (b .offer)
+abbrev pub soundPrior : PriorPrices → Bool
+soundPrior p = priceOrAbsent (p .close) && leb (p .ipo) lastPrice
 
--- "lot (1, 50 or 100)"
-abbrev pub listedLot : ℕ → Bool
-listedLot n = eqb n 1 || eqb n 50 || eqb n 100
+abbrev pub soundPrices : Prices → Bool
+soundPrices p = priceOrAbsent (p .projected) && priceOrAbsent (p .«last_sale») && priceOrAbsent (p .bid) && priceOrAbsent (p .offer)
 
--- "lot and flags have listed values; prices are absent or on the ladder (IPO: 0 to 10,000,000)"
 unfoldable pub soundSecurity : Security → Bool
-soundSecurity s =
-    listedLot (s .lot)
-    && leb (s .free) 1
-    && leb (s .«first_day») 1
-    && priceOrAbsent (s .«prior_close»)
-    && leb (s .ipo) lastPrice
-    && soundBoard (s .main)
-    && soundBoard (s .foreign)
+soundSecurity s = soundTerms (s .terms) && soundPrior (s .prior) && soundPrices (s .main) && soundPrices (s .foreign)
 
 abbrev pub marked : Row → Bool
 marked r = not (eqb (r .mark) freeMark)
 
 -- "free rows are all zero"
 abbrev pub allZero : Row → Bool
-allZero r =
-    eqb (r .mark) 0
-    && eqb (r .number) 0
-    && eqb (r .security) 0
-    && eqb (r .board) 0
-    && eqb (r .side) 0
-    && eqb (r .ordtype) 0
-    && eqb (r .price) 0
-    && eqb (r .volume) 0
-    && eqb (r .«cancel_time») 0
+allZero r = all (λ (n : ℕ). eqb n 0) (rowWords r)
 
 -- "a ladder price for a limit and 0 for ATO and ATC"
 abbrev pub pricedAs : ℕ → ℕ → Bool
-pricedAs ordtype price = eqb ordtype limit && legal price || not (eqb ordtype limit) && eqb price 0
+pricedAs type price = isLimit type && legal price || not (isLimit type) && eqb price 0
 
 -- "the cancel time is 0 if open and at most the clock if cancelled; a cancelled row is a limit"
 abbrev pub openOrCancelled : ℕ → Row → Bool
 openOrCancelled clock r =
     eqb (r .mark) openMark && eqb (r .«cancel_time») 0
-    || eqb (r .mark) cancelledMark && leb (r .«cancel_time») clock && eqb (r .ordtype) limit
+    || eqb (r .mark) cancelledMark && leb (r .«cancel_time») clock && isLimit (r .«order_type»)
 
 -- "a marked row has a number above 0 .., a security below S, listed codes, .. volume 1 to 20,000,000"
 abbrev pub soundMarked : ℕ → ℕ → Row → Bool
@@ -68,10 +57,10 @@ soundMarked securities clock r =
     && ltb (r .security) securities
     && leb (r .board) foreignBoard
     && leb (r .side) sell
-    && leb (r .ordtype) atc
-    && pricedAs (r .ordtype) (r .price)
+    && leb (r .«order_type») atc
+    && pricedAs (r .«order_type») (r .price)
     && leb 1 (r .volume)
-    && leb (r .volume) mostVolume
+    && leb (r .volume) maxVolume
 
 unfoldable pub soundRow : ℕ → ℕ → Row → Bool
 soundRow securities clock r = allZero r || soundMarked securities clock r

@@ -1,15 +1,17 @@
 -- Paper 01, "The lent state": where the header, the security records and the desks stand in the words.
 use mathlib.Core.Bool.{Bool, _&&_}
 use mathlib.Core.List.{List, [], _∷_, _++_}
-use Prim.Native.Nat.{ℕ, zero, suc, _+_, _*_}
+use Prim.Native.Nat.{ℕ, zero, suc, _+_, _-_, _*_}
 use lib.Dec.{leb, eqb}
 use lib.ListN.{length, getD, take, drop, replicate}
 use Rattle.definitions.specs.declared.Header.{Header}
-use Rattle.definitions.specs.declared.Board.{Board}
+use Rattle.definitions.specs.declared.Terms.{Terms}
+use Rattle.definitions.specs.declared.PriorPrices.{PriorPrices}
+use Rattle.definitions.specs.declared.Prices.{Prices}
 use Rattle.definitions.specs.declared.Security.{Security}
 use Rattle.definitions.specs.declared.Row.{Row}
 use Rattle.definitions.specs.declared.Desk.{Desk}
-use Rattle.definitions.specs.Codes.{mostCustomers, mostSecurities, lastTime, preClose, deskRows}
+use Rattle.definitions.specs.Codes.{maxCustomers, maxSecurities, lastTime, preClose, deskRows}
 use Rattle.definitions.specs.Lists.{part, put, repeat}
 
 abbrev pub headerSize : ℕ
@@ -20,6 +22,9 @@ securitySize = 13
 
 abbrev pub rowSize : ℕ
 rowSize = 9
+
+abbrev pub countersSize : ℕ
+countersSize = 3
 
 abbrev pub deskSize : ℕ
 deskSize = 291
@@ -34,9 +39,12 @@ deskPlace securities k = securityPlace securities + deskSize * k
 abbrev pub stateSize : ℕ → ℕ → ℕ
 stateSize customers securities = deskPlace securities customers
 
--- "Header: C, S, clock, session"
-abbrev pub headerOf : List ℕ → Header
-headerOf w = record { customers = getD w 0 0; securities = getD w 1 0; clock = getD w 2 0; session = getD w 3 0 }
+-- "Header: C, S, clock .., session ..", in its own words, and as the first part of a state's
+abbrev pub headerIn : List ℕ → Header
+headerIn h = record { customers = getD h 0 0; securities = getD h 1 0; clock = getD h 2 0; session = getD h 3 0 }
+
+unfoldable pub headerOf : List ℕ → Header
+headerOf w = headerIn (part w 0 headerSize)
 
 abbrev pub clockPlace : ℕ
 clockPlace = 2
@@ -44,47 +52,48 @@ clockPlace = 2
 abbrev pub sessionPlace : ℕ
 sessionPlace = 3
 
--- "Security: lot, free flag, first-day flag, prior close, IPO price; then projected, last sale, best bid, best offer for the main board, and
+-- "Security: lot .., free flag .., first-day flag, prior close, IPO price; then projected, last sale, best bid, best offer for the main board, and
 -- the same four for the foreign board"
-abbrev pub boardOf : List ℕ → ℕ → Board
-boardOf w at = record { projected = getD w at 0; «last_sale» = getD w (at + 1) 0; bid = getD w (at + 2) 0; offer = getD w (at + 3) 0 }
+abbrev pub termsAt : List ℕ → ℕ → Terms
+termsAt w at = record { lot = getD w at 0; free = getD w (at + 1) 0; «first_day» = getD w (at + 2) 0 }
 
-abbrev pub boardWords : Board → List ℕ
-boardWords b = b .projected ∷ b .«last_sale» ∷ b .bid ∷ b .offer ∷ []
+abbrev pub priorAt : List ℕ → ℕ → PriorPrices
+priorAt w at = record { close = getD w at 0; ipo = getD w (at + 1) 0 }
+
+abbrev pub pricesAt : List ℕ → ℕ → Prices
+pricesAt w at = record { projected = getD w at 0; «last_sale» = getD w (at + 1) 0; bid = getD w (at + 2) 0; offer = getD w (at + 3) 0 }
+
+abbrev pub pricesWords : Prices → List ℕ
+pricesWords p = p .projected ∷ p .«last_sale» ∷ p .bid ∷ p .offer ∷ []
 
 unfoldable pub securityOf : List ℕ → Security
-securityOf w =
-    record {
-      lot = getD w 0 0;
-      free = getD w 1 0;
-      «first_day» = getD w 2 0;
-      «prior_close» = getD w 3 0;
-      ipo = getD w 4 0;
-      main = boardOf w 5;
-      foreign = boardOf w 9;
-    }
+securityOf w = record { terms = termsAt w 0; prior = priorAt w 3; main = pricesAt w 5; foreign = pricesAt w 9 }
 
 unfoldable pub securityWords : Security → List ℕ
-securityWords s = s .lot ∷ s .free ∷ s .«first_day» ∷ s .«prior_close» ∷ s .ipo ∷ (boardWords (s .main) ++ boardWords (s .foreign))
+securityWords s =
+    s .terms .lot ∷ s .terms .free ∷ s .terms .«first_day» ∷ s .prior .close ∷ s .prior .ipo ∷ (pricesWords (s .main) ++ pricesWords (s .foreign))
 
--- "Row: mark, order number, security, board, side, type, price, volume, cancel time"
-unfoldable pub rowOf : List ℕ → Row
-rowOf w =
+-- "Row: mark .., order number, security, board .., side .., type .., price, volume, cancel time"
+abbrev pub row : ℕ → ℕ → ℕ → ℕ → ℕ → ℕ → ℕ → ℕ → ℕ → Row
+row mark number security board side type price volume time =
     record {
-      mark = getD w 0 0;
-      number = getD w 1 0;
-      security = getD w 2 0;
-      board = getD w 3 0;
-      side = getD w 4 0;
-      ordtype = getD w 5 0;
-      price = getD w 6 0;
-      volume = getD w 7 0;
-      «cancel_time» = getD w 8 0;
+      mark = mark;
+      number = number;
+      security = security;
+      board = board;
+      side = side;
+      «order_type» = type;
+      price = price;
+      volume = volume;
+      «cancel_time» = time;
     }
+
+unfoldable pub rowOf : List ℕ → Row
+rowOf w = row (getD w 0 0) (getD w 1 0) (getD w 2 0) (getD w 3 0) (getD w 4 0) (getD w 5 0) (getD w 6 0) (getD w 7 0) (getD w 8 0)
 
 unfoldable pub rowWords : Row → List ℕ
 rowWords r =
-    r .mark ∷ r .number ∷ r .security ∷ r .board ∷ r .side ∷ r .ordtype ∷ r .price ∷ r .volume ∷ r .«cancel_time» ∷ []
+    r .mark ∷ r .number ∷ r .security ∷ r .board ∷ r .side ∷ r .«order_type» ∷ r .price ∷ r .volume ∷ r .«cancel_time» ∷ []
 
 unfoldable pub rowsOf : ℕ → List ℕ → List Row
 rowsOf zero w = []
@@ -96,7 +105,7 @@ rowsWords (r ∷ rs) = rowWords r ++ rowsWords rs
 
 -- "Desk: the customer's three counters and 32 rows"; "Counters: accepted, warned, rejected"
 unfoldable pub deskOf : List ℕ → Desk
-deskOf w = record { accepted = getD w 0 0; warned = getD w 1 0; rejected = getD w 2 0; rows = rowsOf deskRows (drop 3 w) }
+deskOf w = record { accepted = getD w 0 0; warned = getD w 1 0; rejected = getD w 2 0; rows = rowsOf deskRows (drop countersSize w) }
 
 unfoldable pub deskWords : Desk → List ℕ
 deskWords d = d .accepted ∷ d .warned ∷ d .rejected ∷ rowsWords (d .rows)
@@ -118,9 +127,9 @@ putDesk w k d = put w (deskPlace (headerOf w .securities) k) (deskWords d)
 -- "For C customers (1 to 256) and S securities (1 to 1,024)"
 abbrev pub sizesFit : ℕ → ℕ → Bool
 sizesFit customers securities =
-    leb 1 customers && leb customers mostCustomers && leb 1 securities && leb securities mostSecurities
+    leb 1 customers && leb customers maxCustomers && leb 1 securities && leb securities maxSecurities
 
--- what condition 1 asks of the lent state: "C, S, word count, clock or session as above"
+-- condition 1 is met where this does not hold: "C, S, word count, clock or session not as above"
 unfoldable pub stateFits : List ℕ → Bool
 stateFits w =
     sizesFit (headerOf w .customers) (headerOf w .securities)
@@ -128,16 +137,9 @@ stateFits w =
     && leb (headerOf w .clock) lastTime
     && leb (headerOf w .session) preClose
 
--- "A fresh state has its C and S, every lot 100 and zeros elsewhere."
-abbrev pub noPrices : Board
-noPrices = record { projected = 0; «last_sale» = 0; bid = 0; offer = 0 }
-
-abbrev pub freshSecurity : Security
-freshSecurity = record { lot = 100; free = 0; «first_day» = 0; «prior_close» = 0; ipo = 0; main = noPrices; foreign = noPrices }
-
--- the market's words: header and security records
+-- "A fresh state has its C and S, every lot 100 and zeros elsewhere."; the market's words are the header and the security records
 unfoldable pub freshMarket : ℕ → ℕ → List ℕ
-freshMarket customers securities = customers ∷ securities ∷ 0 ∷ 0 ∷ repeat securities (securityWords freshSecurity)
+freshMarket customers securities = customers ∷ securities ∷ 0 ∷ 0 ∷ repeat securities (100 ∷ replicate (securitySize - 1) 0)
 
 unfoldable pub fresh : ℕ → ℕ → List ℕ
 fresh customers securities = freshMarket customers securities ++ replicate (deskSize * customers) 0

@@ -1,6 +1,8 @@
 // The records, events and answers of paper 01, as the code has them. What they mean stands in specs/. No code.
 pub mod codes;
 
+use codes::DESK_ROWS;
+
 // Paper 01, "The lent state": the header.
 pub struct Header {
     pub customers: u32,
@@ -9,8 +11,20 @@ pub struct Header {
     pub session: u32,
 }
 
+// What is set for a day: lot and flags, as kind 3's codes, and the prices from before it.
+pub struct Terms {
+    pub lot: u32,
+    pub free: u32,
+    pub first_day: u32,
+}
+
+pub struct PriorPrices {
+    pub close: u32,
+    pub ipo: u32,
+}
+
 // The four prices of a security on one board; 0 is absent.
-pub struct Board {
+pub struct Prices {
     pub projected: u32,
     pub last_sale: u32,
     pub bid: u32,
@@ -18,23 +32,20 @@ pub struct Board {
 }
 
 pub struct Security {
-    pub lot: u32,
-    pub free: u32,
-    pub first_day: u32,
-    pub prior_close: u32,
-    pub ipo: u32,
-    pub main: Board,
-    pub foreign: Board,
+    pub terms: Terms,
+    pub prior: PriorPrices,
+    pub main: Prices,
+    pub foreign: Prices,
 }
 
-// `ordtype` is the paper's type of an order, by the word of FIX: `type` is a keyword.
+// `order_type` is the paper's type of an order: `type` is a keyword.
 pub struct Row {
     pub mark: u32,
     pub number: u32,
     pub security: u32,
     pub board: u32,
     pub side: u32,
-    pub ordtype: u32,
+    pub order_type: u32,
     pub price: u32,
     pub volume: u32,
     pub cancel_time: u32,
@@ -44,24 +55,28 @@ pub struct Desk {
     pub accepted: u32,
     pub warned: u32,
     pub rejected: u32,
-    pub rows: [Row; 32],
+    pub rows: [Row; DESK_ROWS],
+}
+
+// What a rule may see of the market: with one desk it is all that decides about an order (specs/Rules.antt).
+pub struct MarketView {
+    pub session: u32,
+    pub clock: u32,
+    pub security: Security,
 }
 
 // Paper 01, "Events": a struct for each kind of more than one field. An order, a cancel and a match report stand beside the number of their customer,
 // so that what decides about an order is not given that number.
 pub struct Setup {
     pub security: u32,
-    pub lot: u32,
-    pub free: u32,
-    pub first_day: u32,
-    pub prior_close: u32,
-    pub ipo: u32,
+    pub terms: Terms,
+    pub prior: PriorPrices,
 }
 
-pub struct Prices {
+pub struct BoardPrices {
     pub security: u32,
     pub board: u32,
-    pub prices: Board,
+    pub prices: Prices,
 }
 
 pub struct Order {
@@ -69,7 +84,7 @@ pub struct Order {
     pub security: u32,
     pub board: u32,
     pub side: u32,
-    pub ordtype: u32,
+    pub order_type: u32,
     pub channel: u32,
     pub price: u32,
     pub volume: u32,
@@ -88,7 +103,7 @@ pub enum Event {
     Clock(u32),
     Session(u32),
     Setup(Setup),
-    Prices(Prices),
+    Prices(BoardPrices),
     Order(u32, Order),
     Cancel(u32, Cancel),
     Match(u32, Match),
@@ -110,6 +125,13 @@ pub enum Verdict {
     Warn30,
     Warn10,
     Accept,
+}
+
+// What a verdict counts as: the counter that it adds 1 to.
+pub enum Counter {
+    Accepted,
+    Warned,
+    Rejected,
 }
 
 pub enum Answer {
