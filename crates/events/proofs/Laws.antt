@@ -2,13 +2,15 @@
 -- Assumes nothing.
 use mathlib.Core.List.{List}
 use mathlib.Core.Logic.{⊎-elim}
-use mathlib.Core.Path.{_≡_, refl, sym}
+use mathlib.Core.Path.{_≡_, refl, ap, sym}
 use Prim.Native.Nat.{ℕ, zero, suc, _-_, _<_}
 use native.Mathlib.Nat.{eq-or-lt-of-le}
 use native.Mathlib.Omega.{arith}
 use lib.ListN.{length, getD, List·getD-eq-default}
 use borrow.Author.Tests.{eq-eqb, ne-eqb}
-use Rattle.definitions.specs.Events.{lengths, lengthOf, eventOf, readEvent}
+use Rattle.definitions.specs.Lists.{firstMet}
+use Rattle.definitions.specs.Events.{matchOf, kinds, lengthOf, eventOf}
+use Rattle.events.specs.Readings.{readEvent}
 use Rattle.definitions.specs.declared.Event.{Event}
 use Rattle.definitions.specs.declared.Reading.the-variants.{Whole, Refused}
 
@@ -21,36 +23,36 @@ above : (n : ℕ) {k : ℕ} → 0 < k → NoneOf n k → n < k
 above zero some rest = some
 above (suc n) some rest = omega (arith, above n some (rest .0), rest .1)
 
-past : (k : ℕ) → length lengths < k → lengthOf k ≡ 0
+past : (k : ℕ) → length kinds < k → lengthOf k ≡ 0
 unfolding lengthOf
-past k h = rw (ne-eqb k 0 (λ e. omega arith)) (List·getD-eq-default lengths 0 {n = k - 1} (omega arith))
+past k h = rw (ne-eqb k 0 (λ e. omega arith)) (ap (λ (x : ℕ × (List ℕ → Event)). x .0) (List·getD-eq-default kinds (0, matchOf) {n = k - 1} (omega arith)))
 
-pub unknown : (k : ℕ) → NoneOf (length lengths) k → 0 ≡ lengthOf k
+pub unknown : (k : ℕ) → NoneOf (length kinds) k → 0 ≡ lengthOf k
 unfolding lengthOf
 unknown zero rest = refl
-unknown (suc k) rest = sym (past (suc k) (above (length lengths) (omega arith) rest))
+unknown (suc k) rest = sym (past (suc k) (above (length kinds) (omega arith) rest))
 
 -- a kind that has a length and is none before the table's last is the last
-pub last-kind : (k : ℕ) → 0 < lengthOf k → NoneOf (length lengths - 1) k → k ≡ length lengths
+pub last-kind : (k : ℕ) → 0 < lengthOf k → NoneOf (length kinds - 1) k → k ≡ length kinds
 unfolding lengthOf
 last-kind zero has rest = omega arith
 last-kind (suc k) has rest =
-    ⊎-elim (λ e. sym e) (λ h. omega (arith, past (suc k) h)) (eq-or-lt-of-le (above (length lengths - 1) (omega arith) rest))
+    ⊎-elim (λ e. sym e) (λ h. omega (arith, past (suc k) h)) (eq-or-lt-of-le (above (length kinds - 1) (omega arith) rest))
 
 module _ (b : List ℕ) where
   pub empty : length b ≡ 0 → Refused 2 ≡ readEvent b
-  unfolding readEvent
+  unfolding readEvent firstMet
   empty e = rw (eq-eqb _ _ e)
 
   module _ {n : ℕ} (some : length b ≡ 0 → ⊥) (of-kind : n ≡ lengthOf (getD b 0 0)) where
     pub unknown-kind : n ≡ 0 → Refused 3 ≡ readEvent b
-    unfolding readEvent
+    unfolding readEvent firstMet
     unknown-kind e = rw (ne-eqb (length b) 0 some, ← of-kind, eq-eqb n 0 e)
 
     pub wrong-length : (n ≡ 0 → ⊥) → (length b ≡ n → ⊥) → Refused 2 ≡ readEvent b
-    unfolding readEvent
+    unfolding readEvent firstMet
     wrong-length known differs = rw (ne-eqb (length b) 0 some, ← of-kind, ne-eqb n 0 known, ne-eqb (length b) n differs)
 
     pub read-whole : (n ≡ 0 → ⊥) → length b ≡ n → {e : Event} → e ≡ eventOf (getD b 0 0) b → Whole e ≡ readEvent b
-    unfolding readEvent
+    unfolding readEvent firstMet
     read-whole known e read = rw (read, ne-eqb (length b) 0 some, ← of-kind, ne-eqb n 0 known, eq-eqb (length b) n e)

@@ -2,15 +2,18 @@
 ghost use mathlib.Core.Path.{_≡_};
 ghost use Prim.Native.Nat.{_+_, _*_, _≤_, _<_};
 ghost use lib.ListN.{length, getD};
-ghost use Rattle.definitions.specs.Events.{two, four, lengthOf, clockOf, sessionOf, setupOf, pricesOf, orderOf, cancelOf, matchOf, eventOf, readEvent};
-use definitions::Board;
+ghost use Rattle.definitions.specs.Events.{two, four, lengthOf, clockOf, sessionOf, setupOf, pricesOf, orderOf, cancelOf, matchOf, eventOf};
+ghost use Rattle.events.specs.Readings.{readEvent};
+use definitions::BoardPrices;
 use definitions::Cancel;
 use definitions::Event;
 use definitions::Match;
 use definitions::Order;
 use definitions::Prices;
+use definitions::PriorPrices;
 use definitions::Reading;
 use definitions::Setup;
+use definitions::Terms;
 
 // "an unknown kind is found before a wrong length"
 pub fn read_event(bytes: &[u8]) -> Reading
@@ -82,11 +85,15 @@ fn setup_of(bytes: &[u8]) -> Event
 {
     Event::Setup(Setup {
         security: two_at(bytes, 1),
-        lot: byte_at(bytes, 3),
-        free: byte_at(bytes, 4),
-        first_day: byte_at(bytes, 5),
-        prior_close: four_at(bytes, 6),
-        ipo: four_at(bytes, 10),
+        terms: Terms {
+            lot: byte_at(bytes, 3),
+            free: byte_at(bytes, 4),
+            first_day: byte_at(bytes, 5),
+        },
+        prior: PriorPrices {
+            close: four_at(bytes, 6),
+            ipo: four_at(bytes, 10),
+        },
     })
 }
 
@@ -94,10 +101,10 @@ fn prices_of(bytes: &[u8]) -> Event
     requires { ⌜ length (now bytes) ≡ 20 ⌝ }
     ensures { λ r. ⌜ r ≡ pricesOf (now (bytes .entry)) ⌝ }
 {
-    Event::Prices(Prices {
+    Event::Prices(BoardPrices {
         security: two_at(bytes, 1),
         board: byte_at(bytes, 3),
-        prices: Board {
+        prices: Prices {
             projected: four_at(bytes, 4),
             last_sale: four_at(bytes, 8),
             bid: four_at(bytes, 12),
@@ -117,7 +124,7 @@ fn order_of(bytes: &[u8]) -> Event
             security: two_at(bytes, 7),
             board: byte_at(bytes, 9),
             side: byte_at(bytes, 10),
-            ordtype: byte_at(bytes, 11),
+            order_type: byte_at(bytes, 11),
             channel: byte_at(bytes, 12),
             price: four_at(bytes, 13),
             volume: four_at(bytes, 17),

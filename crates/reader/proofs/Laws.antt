@@ -1,4 +1,4 @@
--- What stands at a position of lent bytes: one law for each exit of `step_at`, and what a loop over the events learns of a step.
+-- What stands at a position of lent bytes: one law for each exit of `found_at`, and what a loop over the events learns of what is found.
 -- Assumes nothing.
 use mathlib.Core.Bool.{Bool, true, false, cond, _||_}
 use mathlib.Core.List.{List}
@@ -12,20 +12,20 @@ use lib.Seq.{getD-drop}
 use borrow.Author.Tests.{ltb-false, eqb-false, lt-ltb, le-ltb, le-leb, lt-leb, eq-eqb, ne-eqb}
 use Rattle.definitions.specs.Events.{lengthOf}
 use Rattle.definitions.specs.Walk.{taken}
-use Rattle.reader.specs.declared.Step.the-variants.{Event, End}
-use Rattle.reader.specs.Steps.{stepAt}
+use Rattle.reader.specs.declared.Found.the-variants.{Event, End}
+use Rattle.reader.specs.Places.{foundAt}
 
 -- as `taken` has it, of the number of bytes left and of the length of their kind
 abbrev takes : ℕ → ℕ → ℕ
 takes left n = cond (eqb n 0 || ltb left n) left n
 
 module _ (b : List ℕ) (at : ℕ) where
-  pub no-event : length b ≤ at → End ≡ stepAt b at
-  unfolding stepAt
+  pub no-event : length b ≤ at → End ≡ foundAt b at
+  unfolding foundAt
   no-event h = rw (le-leb _ _ h)
 
-  some-event : at < length b → stepAt b at ≡ Event (at + taken (drop at b))
-  unfolding stepAt
+  some-event : at < length b → foundAt b at ≡ Event (at + taken (drop at b))
+  unfolding foundAt
   some-event h = rw (lt-leb _ _ h)
 
   taken-at : {n : ℕ} → n ≡ lengthOf (getD b at 0) → taken (drop at b) ≡ takes (length b - at) n
@@ -33,13 +33,13 @@ module _ (b : List ℕ) (at : ℕ) where
   taken-at of-kind = rw (length-drop, getD-drop, add-zero, of-kind)
 
   module _ {n : ℕ} (some : at < length b) (of-kind : n ≡ lengthOf (getD b at 0)) where
-    pub unknown-kind : n ≡ 0 → Event (at + (length b - at)) ≡ stepAt b at
+    pub unknown-kind : n ≡ 0 → Event (at + (length b - at)) ≡ foundAt b at
     unknown-kind e = rw (some-event some, taken-at of-kind, eq-eqb n 0 e)
 
-    pub short-event : (n ≡ 0 → ⊥) → length b - at < n → Event (at + (length b - at)) ≡ stepAt b at
+    pub short-event : (n ≡ 0 → ⊥) → length b - at < n → Event (at + (length b - at)) ≡ foundAt b at
     short-event known h = rw (some-event some, taken-at of-kind, ne-eqb n 0 known, lt-ltb (length b - at) n h)
 
-    pub whole-event : (n ≡ 0 → ⊥) → n ≤ length b - at → Event (at + n) ≡ stepAt b at
+    pub whole-event : (n ≡ 0 → ⊥) → n ≤ length b - at → Event (at + n) ≡ foundAt b at
     whole-event known h = rw (some-event some, taken-at of-kind, ne-eqb n 0 known, le-ltb (length b - at) n h)
 
 -- of some bytes, at least one and at most all
@@ -62,7 +62,7 @@ pub record EventAt (b : List ℕ) (at end : ℕ) : Type 0 where
   pub within : end ≤ length b
 
 module _ (b : List ℕ) (at : ℕ) where
-  pub event-at : (end : ℕ) → stepAt b at ≡ Event end → EventAt b at end
+  pub event-at : (end : ℕ) → foundAt b at ≡ Event end → EventAt b at end
   event-at end e =
       let over : length b ≤ at → ⊥ = λ h. let z : _≡_ {A = ℕ} 0 1 = cc (no-event b at h) in omega arith in
       let some : at < length b = omega arith in
@@ -71,7 +71,7 @@ module _ (b : List ℕ) (at : ℕ) where
       let takes = taken-at b at refl in
       record { some = some; ends = ends; grows = omega arith; within = omega arith }
 
-  pub end-at : stepAt b at ≡ End → length b ≤ at
+  pub end-at : foundAt b at ≡ End → length b ≤ at
   end-at e =
       let more : at < length b → ⊥ = λ h. let z : _≡_ {A = ℕ} 0 1 = cc (some-event b at h) in omega arith in
       omega arith

@@ -1,11 +1,11 @@
 // Paper 01, "The day program": it "walks the lent bytes with one event reader". The borrow checker covers no function over a struct that holds a
-// reference, so the work is in `step_at`, over a plain slice, and the functions over the struct are thin.
+// reference, so the work is in `found_at`, over a plain slice, and the functions over the struct are thin.
 ghost use mathlib.Core.Path.{_≡_};
-ghost use Rattle.reader.specs.Steps.{stepAt};
+ghost use Rattle.reader.specs.Places.{foundAt};
 use events::length_of;
 
 // What stands at a position: an event, with the position after its last byte, or nothing.
-pub enum Step {
+pub enum Found {
     Event(usize),
     End,
 }
@@ -16,19 +16,19 @@ pub struct EventReader<'a> {
 }
 
 // "`refused 2` or `refused 3` ends the listing": what is no whole event takes all that is left.
-pub fn step_at(bytes: &[u8], at: usize) -> Step
-    ensures { λ r. ⌜ r ≡ stepAt (now (bytes .entry)) at ⌝ }
+pub fn found_at(bytes: &[u8], at: usize) -> Found
+    ensures { λ r. ⌜ r ≡ foundAt (now (bytes .entry)) at ⌝ }
 {
     if bytes.len() <= at {
-        return Step::End;
+        return Found::End;
     }
     let left = bytes.len() - at;
     let length = length_of(bytes[at]);
     let whole = if length == 0 { left } else { length };
     if left < whole {
-        return Step::Event(at + left);
+        return Found::Event(at + left);
     }
-    Step::Event(at + whole)
+    Found::Event(at + whole)
 }
 
 pub fn reader_at<'a>(bytes: &'a [u8], at: usize) -> EventReader<'a>
@@ -37,15 +37,15 @@ pub fn reader_at<'a>(bytes: &'a [u8], at: usize) -> EventReader<'a>
     EventReader { bytes, at }
 }
 
-pub fn next<'a>(r: EventReader<'a>) -> Step
-    ensures { λ s. ⌜ s ≡ stepAt (now (r .entry .bytes)) (r .entry .at) ⌝ }
+pub fn next<'a>(r: EventReader<'a>) -> Found
+    ensures { λ s. ⌜ s ≡ foundAt (now (r .entry .bytes)) (r .entry .at) ⌝ }
 {
-    step_at(r.bytes, r.at)
+    found_at(r.bytes, r.at)
 }
 
 // The parameters are plain, so that a caller needs no walk by hand.
-pub fn next_event(bytes: &[u8], at: usize) -> Step
-    ensures { λ s. ⌜ s ≡ stepAt (now (bytes .entry)) at ⌝ }
+pub fn next_event(bytes: &[u8], at: usize) -> Found
+    ensures { λ s. ⌜ s ≡ foundAt (now (bytes .entry)) at ⌝ }
 {
     next(reader_at(bytes, at))
 }

@@ -5,8 +5,8 @@ use Prim.Native.Nat.{ℕ, _+_}
 use lib.Dec.{leb}
 use lib.ListN.{length, drop}
 use Rattle.definitions.specs.Walk.{taken}
-use Rattle.reader.specs.declared.Step.{Step}
-use Rattle.reader.specs.declared.Step.the-variants.{Event, End}
+use Rattle.reader.specs.declared.Found.{Found}
+use Rattle.reader.specs.declared.Found.the-variants.{Event, End}
 
-unfoldable pub stepAt : List ℕ → ℕ → Step
-stepAt b at = cond (leb (length b) at) End (Event (at + taken (drop at b)))
+unfoldable pub foundAt : List ℕ → ℕ → Found
+foundAt b at = cond (leb (length b) at) End (Event (at + taken (drop at b)))

@@ -1,11 +1,11 @@
--- `reader::step_at` meets its contract: each return is the step that the tests before it leave.
+-- `reader::found_at` meets its contract: each return is what the tests before it leave to be found.
 -- Assumes nothing.
 use mathlib.Core.Logic.{⊎-elim}
 use native.Mathlib.Omega.{arith}
 use borrow.Author.Needs.{needs}
 use Rattle.reader.proofs.Laws.{no-event, unknown-kind, short-event, whole-event}
-use Rattle.reader.proofs.step_at.Statement.{statement}
-use Rattle.reader.proofs.step_at.Tie as tie
+use Rattle.reader.proofs.found_at.Statement.{statement}
+use Rattle.reader.proofs.found_at.Tie as tie
 
 returns : tie.Need-returns
 returns c = no-event _ _ (omega arith)
@@ -37,8 +37,8 @@ returns-3 c =
     let of-kind = c .before .before .before .length-of .ensures in
     ⊎-elim (λ w. rw (w .1) (unknown-kind _ _ some of-kind (w .0 .taken))) (λ w. rw (w .1) (whole-event _ _ some of-kind (w .0 .left) (omega arith))) (c .before .before .if2 .came)
 
-pub step-at-spec : {M : Type 1} → statement M
-step-at-spec =
+pub found-at-spec : {M : Type 1} → statement M
+found-at-spec =
     tie.close
     (tie.spec
     returns
