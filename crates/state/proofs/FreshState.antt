@@ -10,7 +10,7 @@ use lib.ListN.{length, set, drop, replicate, length-set, length-append, length-r
 use lib.Seq.{set-at, drop-length}
 use borrow.Author.Fill.{fill-more}
 use Rattle.definitions.specs.Lists.{repeat}
-use Rattle.definitions.specs.State.{stateSize, securityPlace, securityWords, freshSecurity, freshMarket, fresh}
+use Rattle.definitions.specs.State.{securitySize, deskSize, stateSize, securityPlace, freshMarket, fresh}
 
 -- words repeated
 length-repeat : (n : ℕ) (xs : List ℕ) → length (repeat n xs) ≡ length xs * n
@@ -48,40 +48,45 @@ cleared-end {w₀} {w} {i} h inv =
     inv .words ∙ rw (end, drop-length w₀) (append-nil (replicate (length w₀) 0))
 
 -- a fresh state, one lot after the other
-abbrev pub lots : ℕ → List ℕ
-lots s = repeat s (securityWords freshSecurity)
+abbrev listedWords : List ℕ
+listedWords = 100 ∷ replicate (securitySize - 1) 0
 
-length-lots : (s : ℕ) → length (lots s) ≡ 13 * s
-unfolding securityWords
-length-lots s = length-repeat s (securityWords freshSecurity)
+abbrev pub lots : ℕ → List ℕ
+lots s = repeat s listedWords
+
+length-lots : (s : ℕ) → length (lots s) ≡ securitySize * s
+length-lots s = length-repeat s listedWords
+
+-- how many words are left behind the first s securities
+abbrev left : ℕ → ℕ → ℕ → ℕ
+left customers securities s = securitySize * (securities - s) + deskSize * customers
 
 pub record Listed (customers securities : ℕ) (w : List ℕ) (s : ℕ) : Type 0 where
-  pub words : w ≡ customers ∷ securities ∷ 0 ∷ 0 ∷ (lots s ++ replicate (13 * (securities - s) + 291 * customers) 0)
+  pub words : w ≡ customers ∷ securities ∷ 0 ∷ 0 ∷ (lots s ++ replicate (left customers securities s) 0)
   pub to : s ≤ securities
 
 pub listed-none : {customers securities n : ℕ} {w : List ℕ} → w ≡ replicate n 0 → n ≡ stateSize customers securities
     → Listed customers securities (set (set w 0 customers) 1 securities) 0
 unfolding repeat
 listed-none {customers} {securities} {n} e f =
-    let size : n ≡ suc (suc (suc (suc (13 * (securities - 0) + 291 * customers)))) = omega arith in
+    let size : n ≡ suc (suc (suc (suc (left customers securities 0)))) = omega arith in
     record { words = rw (e, size); to = omega arith }
 
 pub listed-next : {customers securities : ℕ} {w : List ℕ} {s : ℕ} → s < securities → Listed customers securities w s
     → Listed customers securities (set w (securityPlace s) 100) (s + 1)
-unfolding securityWords
 listed-next {customers} {securities} {w} {s} h inv =
-    let left : ℕ = 13 * (securities - (s + 1)) + 291 * customers in
-    let size : 13 * (securities - s) + 291 * customers ≡ 13 + left = omega arith in
-    let rest : List ℕ = replicate 12 0 ++ replicate left 0 in
-    let zeros : replicate (13 * (securities - s) + 291 * customers) 0 ≡ 0 ∷ rest =
-    rw (size, ← replicate-append-replicate {A = ℕ} 13 left 0) in
+    let after : ℕ = left customers securities (s + 1) in
+    let size : left customers securities s ≡ securitySize + after = omega arith in
+    let rest : List ℕ = replicate (securitySize - 1) 0 ++ replicate after 0 in
+    let zeros : replicate (left customers securities s) 0 ≡ 0 ∷ rest =
+    rw (size, ← replicate-append-replicate {A = ℕ} securitySize after 0) in
     let head : List ℕ = customers ∷ securities ∷ 0 ∷ 0 ∷ lots s in
     let place : length head ≡ securityPlace s = omega (arith, length-lots s) in
     record {
       words =
           rw (inv .words, zeros)
           (set-at head 0 rest 100 (securityPlace s) place
-          ∙ ap (λ (l : List ℕ). customers ∷ securities ∷ 0 ∷ 0 ∷ l) (repeat-next s (securityWords freshSecurity) (replicate left 0)));
+          ∙ ap (λ (l : List ℕ). customers ∷ securities ∷ 0 ∷ 0 ∷ l) (repeat-next s listedWords (replicate after 0)));
       to = omega arith;
     }
 
@@ -89,11 +94,11 @@ pub listed-end : {customers securities : ℕ} {w : List ℕ} {s : ℕ} → secur
 unfolding freshMarket fresh
 listed-end {customers} {securities} {w} {s} h inv =
     let end : s ≡ securities = omega (arith, inv .to) in
-    let desks : 13 * (securities - securities) + 291 * customers ≡ 291 * customers = omega arith in
+    let desks : left customers securities securities ≡ deskSize * customers = omega arith in
     inv .words ∙ rw (end, desks)
 
 pub length-listed : {customers securities : ℕ} {w : List ℕ} {s : ℕ} → Listed customers securities w s → length w ≡ stateSize customers securities
 length-listed {customers} {securities} {w} {s} inv =
     ap length (inv .words)
-    ∙ rw (length-append (lots s) (replicate (13 * (securities - s) + 291 * customers) 0), length-lots s, length-replicate (13 * (securities - s) + 291 * customers) (_))
+    ∙ rw (length-append (lots s) (replicate (left customers securities s) 0), length-lots s, length-replicate (left customers securities s) (_))
     (omega (arith, inv .to))

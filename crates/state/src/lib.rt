@@ -5,6 +5,7 @@ mod words;
 pub use fresh::make_fresh;
 pub use words::copy_in;
 pub use words::desk_place;
+pub use words::desk_place_in;
 pub use words::header_of;
 pub use words::security_place;
 pub use words::sizes_fit;

@@ -22,15 +22,6 @@ loop-holds c = record { words = fill-none _ 0; long = refl; to = omega arith }
 mul-words : tie.Need-mul-words Inv-loop μ-loop
 mul-words c = omega (arith, c .before .before .good .0 .1)
 
-slice-write-words : tie.Need-slice-write-words Inv-loop μ-loop
-slice-write-words c = search needs
-
-add-i : tie.Need-add-i Inv-loop μ-loop
-add-i c = omega arith
-
-loop-less : tie.Need-loop-less Inv-loop μ-loop
-loop-less c = omega arith
-
 loop-again : tie.Need-loop-again Inv-loop μ-loop
 loop-again c = cleared-next (c .loop-test .taken) (c .before .loop .inv)
 
@@ -48,9 +39,7 @@ clear-spec =
     μ-loop
     loop-holds
     mul-words
-    slice-write-words
-    add-i
-    loop-less
+    (λ c. search needs) (λ c. omega arith) (λ c. omega arith)
     loop-again
     same-length
     returns)

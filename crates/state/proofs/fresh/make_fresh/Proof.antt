@@ -15,32 +15,14 @@ Inv-loop words₀ customers securities s₀ words s = Listed customers securitie
 abbrev μ-loop : tie.MeasureT-loop
 μ-loop words₀ customers securities s₀ words s = securities - s
 
-clear-requires : tie.Need-clear-requires Inv-loop μ-loop
-clear-requires c κs = search needs
-
-slice-write-words : tie.Need-slice-write-words Inv-loop μ-loop
-slice-write-words c = search needs
-
 slice-write-words-2 : tie.Need-slice-write-words-2 Inv-loop μ-loop
 slice-write-words-2 c = simp length-set (omega arith)
 
 loop-holds : tie.Need-loop-holds Inv-loop μ-loop
 loop-holds c = listed-none (c .before .before .clear .ensures) (c .before .before .before .before .before .pre .0)
 
-security-place-requires : tie.Need-security-place-requires Inv-loop μ-loop
-security-place-requires c κs = search needs
-
-mul-words : tie.Need-mul-words Inv-loop μ-loop
-mul-words c = search needs
-
 slice-write-words-3 : tie.Need-slice-write-words-3 Inv-loop μ-loop
 slice-write-words-3 c = omega (arith, length-listed (c .before .before .loop .inv))
-
-add-s : tie.Need-add-s Inv-loop μ-loop
-add-s c = search needs
-
-loop-less : tie.Need-loop-less Inv-loop μ-loop
-loop-less c = omega arith
 
 loop-again : tie.Need-loop-again Inv-loop μ-loop
 loop-again c = rw (c .security-place .ensures) (listed-next (c .before .loop-test .taken) (c .before .before .loop .inv))
@@ -58,15 +40,12 @@ make-fresh-spec =
     (tie.spec
     Inv-loop
     μ-loop
-    clear-requires
-    slice-write-words
+    (λ c κs. search needs) (λ c. search needs)
     slice-write-words-2
     loop-holds
-    security-place-requires
-    mul-words
+    (λ c κs. search needs) (λ c. search needs)
     slice-write-words-3
-    add-s
-    loop-less
+    (λ c. search needs) (λ c. omega arith)
     loop-again
     same-length
     returns)

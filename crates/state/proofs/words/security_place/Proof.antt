@@ -5,14 +5,8 @@ use native.Mathlib.Omega.{arith}
 use Rattle.state.proofs.words.security_place.Statement.{statement}
 use Rattle.state.proofs.words.security_place.Tie as tie
 
-mul-result : tie.Need-mul-result
-mul-result c = omega arith
-
-add-result : tie.Need-add-result
-add-result c = omega arith
-
 returns : tie.Need-returns
 returns c = refl
 
 pub security-place-spec : {M : Type 1} → statement M
-security-place-spec = tie.close (tie.spec mul-result add-result returns)
+security-place-spec = tie.close (tie.spec (λ c. omega arith) (λ c. omega arith) returns)

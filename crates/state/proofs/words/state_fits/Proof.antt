@@ -1,4 +1,4 @@
--- `state::words::state_fits` meets its contract: fewer than 4 words fit no state, and of others each part of condition 1 is tested.
+-- `state::words::state_fits` meets its contract: words too few for a header fit no state, and of others each part of condition 1 is tested.
 -- Assumes nothing.
 use mathlib.Core.Path.{sym}
 use borrow.Author.Needs.{needs}
@@ -10,15 +10,6 @@ use Rattle.state.proofs.words.state_fits.Tie as tie
 returns : tie.Need-returns
 returns c = sym (no-header _ (c .if1 .taken))
 
-header-of-requires : tie.Need-header-of-requires
-header-of-requires c κs = search needs
-
-sizes-fit-requires : tie.Need-sizes-fit-requires
-sizes-fit-requires c κs = search needs
-
-desk-place-requires : tie.Need-desk-place-requires
-desk-place-requires c κs = search needs
-
 returns-2 : tie.Need-returns-2
 unfolding stateFits
 returns-2 c =
@@ -27,4 +18,4 @@ returns-2 c =
 
 pub state-fits-spec : {M : Type 1} → statement M
 state-fits-spec =
-    tie.close (tie.spec returns header-of-requires sizes-fit-requires desk-place-requires returns-2)
+    tie.close (tie.spec returns (λ c κs. search needs) (λ c κs. search needs) (λ c κs. search needs) returns-2)

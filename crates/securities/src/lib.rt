@@ -1,0 +1,74 @@
+// A security taken out of the words: the prices of one of its boards, and what becomes of it.
+ghost use mathlib.Core.Path.{_≡_};
+ghost use Rattle.definitions.specs.Gate.{afterPrices, afterSetup, noProjected, withPrices, withoutProjected};
+ghost use Rattle.definitions.specs.Rules.{pricesOn};
+use definitions::BoardPrices;
+use definitions::Prices;
+use definitions::Security;
+use definitions::Setup;
+use definitions::codes::FOREIGN_BOARD;
+
+pub fn prices_on(s: Security, board: u32) -> Prices
+    ensures { λ r. ⌜ r ≡ pricesOn s board ⌝ }
+{
+    if board == FOREIGN_BOARD {
+        return s.foreign;
+    }
+    s.main
+}
+
+fn with_prices(main: Prices, foreign: Prices, s: Security) -> Security
+    ensures { λ r. ⌜ r ≡ withPrices main foreign s ⌝ }
+{
+    let terms = s.terms;
+    let prior = s.prior;
+    Security {
+        terms,
+        prior,
+        main,
+        foreign,
+    }
+}
+
+// "Kinds 3 and 4 replace the fields they name."
+pub fn after_setup(x: Setup, s: Security) -> Security
+    ensures { λ r. ⌜ r ≡ afterSetup x s ⌝ }
+{
+    let terms = x.terms;
+    let prior = x.prior;
+    let main = s.main;
+    let foreign = s.foreign;
+    Security {
+        terms,
+        prior,
+        main,
+        foreign,
+    }
+}
+
+pub fn after_prices(x: BoardPrices, s: Security) -> Security
+    ensures { λ r. ⌜ r ≡ afterPrices x s ⌝ }
+{
+    if x.board == FOREIGN_BOARD {
+        return with_prices(s.main, x.prices, s);
+    }
+    with_prices(x.prices, s.foreign, s)
+}
+
+fn no_projected(p: Prices) -> Prices
+    ensures { λ r. ⌜ r ≡ noProjected p ⌝ }
+{
+    Prices {
+        projected: 0,
+        last_sale: p.last_sale,
+        bid: p.bid,
+        offer: p.offer,
+    }
+}
+
+// "makes every projected price absent"
+pub fn without_projected(s: Security) -> Security
+    ensures { λ r. ⌜ r ≡ withoutProjected s ⌝ }
+{
+    with_prices(no_projected(s.main), no_projected(s.foreign), s)
+}

@@ -1,2 +1,0 @@
--- What the public functions promise stands in the crate `definitions`. Here is only what their helpers promise each other.
-pub mod Tested

@@ -1,0 +1,90 @@
+// Paper 01: "A record is sound if: ..".
+ghost use mathlib.Core.Path.{_≡_};
+ghost use Prim.Native.Nat.{_+_, _≤_};
+ghost use lib.ListN.{length};
+ghost use Rattle.definitions.specs.Gate.{soundSecurityAt};
+ghost use Rattle.definitions.specs.Sound.{soundTerms, priceOrAbsent, soundPrior, soundPrices, soundSecurity, pricedAs, openOrCancelled, soundMarked};
+ghost use Rattle.definitions.specs.State.{securitySize, securityPlace};
+use definitions::Prices;
+use definitions::PriorPrices;
+use definitions::Row;
+use definitions::Security;
+use definitions::Terms;
+use definitions::codes::ATC;
+use definitions::codes::CANCELLED_MARK;
+use definitions::codes::FOREIGN_BOARD;
+use definitions::codes::LIMIT;
+use definitions::codes::MAX_VOLUME;
+use definitions::codes::OPEN_MARK;
+use definitions::codes::SELL;
+use ladder::Ladder;
+use state_records::security_at;
+
+// "lot and flags have listed values"
+pub fn sound_terms(t: Terms) -> bool
+    ensures { λ r. ⌜ r ≡ soundTerms t ⌝ }
+{
+    ((t.lot == 1) | (t.lot == 50) | (t.lot == 100)) & (t.free <= 1) & (t.first_day <= 1)
+}
+
+fn price_or_absent(p: u32) -> bool
+    ensures { λ r. ⌜ r ≡ priceOrAbsent p ⌝ }
+{
+    (p == 0) | Ladder::legal(p)
+}
+
+pub fn sound_prior(p: PriorPrices) -> bool
+    ensures { λ r. ⌜ r ≡ soundPrior p ⌝ }
+{
+    price_or_absent(p.close) & (p.ipo <= Ladder::LAST_PRICE)
+}
+
+pub fn sound_prices(p: Prices) -> bool
+    ensures { λ r. ⌜ r ≡ soundPrices p ⌝ }
+{
+    price_or_absent(p.projected)
+        & price_or_absent(p.last_sale)
+        & price_or_absent(p.bid)
+        & price_or_absent(p.offer)
+}
+
+fn sound_security(s: Security) -> bool
+    ensures { λ r. ⌜ r ≡ soundSecurity s ⌝ }
+{
+    sound_terms(s.terms) & sound_prior(s.prior) & sound_prices(s.main) & sound_prices(s.foreign)
+}
+
+// One function, so that the test of thirteen words is compiled once.
+pub fn sound_security_at(words: &[u32], s: u32) -> bool
+    requires { ⌜ securityPlace s + securitySize ≤ length (now words) ⌝ }
+    ensures { λ r. ⌜ r ≡ soundSecurityAt (now (words .entry)) s ⌝ }
+{
+    sound_security(security_at(words, s))
+}
+
+pub fn priced_as(order_type: u32, price: u32) -> bool
+    ensures { λ r. ⌜ r ≡ pricedAs «order_type» price ⌝ }
+{
+    ((order_type == LIMIT) & Ladder::legal(price)) | (!(order_type == LIMIT) & (price == 0))
+}
+
+fn open_or_cancelled(clock: u32, r: Row) -> bool
+    ensures { λ t. ⌜ t ≡ openOrCancelled clock r ⌝ }
+{
+    ((r.mark == OPEN_MARK) & (r.cancel_time == 0))
+        | ((r.mark == CANCELLED_MARK) & (r.cancel_time <= clock) & (r.order_type == LIMIT))
+}
+
+pub fn sound_marked(securities: u32, clock: u32, r: Row) -> bool
+    ensures { λ t. ⌜ t ≡ soundMarked securities clock r ⌝ }
+{
+    open_or_cancelled(clock, r)
+        & (0 < r.number)
+        & (r.security < securities)
+        & (r.board <= FOREIGN_BOARD)
+        & (r.side <= SELL)
+        & (r.order_type <= ATC)
+        & priced_as(r.order_type, r.price)
+        & (1 <= r.volume)
+        & (r.volume <= MAX_VOLUME)
+}
