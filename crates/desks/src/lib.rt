@@ -1,34 +1,36 @@
 // Paper 01, "Events" and "The lone run": how a desk changes, and what conditions 9 to 12 ask of it.
+ghost use mathlib.Core.Bool.{false};
 ghost use mathlib.Core.Path.{_≡_};
 ghost use lib.Dec.{eqb};
 ghost use lib.ListN.{replicate};
 ghost use Rattle.definitions.specs.Codes.{deskRows};
-ghost use Rattle.definitions.specs.Desks.{added, cancelled, freeRow, live, matched, openWith, swept};
-ghost use Rattle.definitions.specs.Refusals.{liveWith, openBelow};
+ghost use Rattle.definitions.specs.Desks.{added, cancelledRow, changed, desk, freeRow, matchedRow, openOrInMinute, openWith, sessionRow};
+ghost use Rattle.definitions.specs.Refusals.{holdsNumber, openBelow};
 ghost use Rattle.definitions.specs.Lists.{any, count};
+ghost use Rattle.desks.specs.Wanted.{isWanted, wanted};
 use definitions::Desk;
 use definitions::Order;
+use definitions::Row;
 use definitions::codes::DESK_ROWS;
-use order_rows::cancelled_row;
-use order_rows::expired_row;
-use order_rows::free_row;
-use order_rows::is_live;
-use order_rows::live_with;
-use order_rows::matched_row;
-use order_rows::open_below;
-use order_rows::open_with;
-use order_rows::row_of_order;
-use order_rows::swept_row;
+use definitions::codes::OPEN_MARK;
+use desk_rows::cancelled_row;
+use desk_rows::expired_row;
+use desk_rows::free_row;
+use desk_rows::holds_number;
+use desk_rows::matched_row;
+use desk_rows::open_or_in_minute;
+use desk_rows::row_of_order;
+use desk_rows::session_row;
 
 // "removes the desk's ATO and ATC rows"
-pub fn swept(d: Desk) -> Desk
-    ensures { λ r. ⌜ r ≡ swept d ⌝ }
+pub fn session_changed(d: Desk) -> Desk
+    ensures { λ r. ⌜ r ≡ changed sessionRow d ⌝ }
 {
     let mut closed = emptied(d.accepted, d.warned, d.rejected);
     let mut n: usize = 0;
     let mut i: usize = 0;
     while i < DESK_ROWS {
-        let row = swept_row(d.rows[i]);
+        let row = session_row(d.rows[i]);
         i += 1;
         if row.mark != 0 {
             closed.rows[n] = row;
@@ -40,7 +42,7 @@ pub fn swept(d: Desk) -> Desk
 
 // "marks an open limit row cancelled at the clock, or removes an ATO or ATC row"
 pub fn cancelled(number: u32, clock: u32, d: Desk) -> Desk
-    ensures { λ r. ⌜ r ≡ cancelled number clock d ⌝ }
+    ensures { λ r. ⌜ r ≡ changed (cancelledRow number clock) d ⌝ }
 {
     let mut closed = emptied(d.accepted, d.warned, d.rejected);
     let mut n: usize = 0;
@@ -58,7 +60,7 @@ pub fn cancelled(number: u32, clock: u32, d: Desk) -> Desk
 
 // "lowers the volume; at 0 the row goes"
 pub fn matched(number: u32, volume: u32, d: Desk) -> Desk
-    ensures { λ r. ⌜ r ≡ matched number volume d ⌝ }
+    ensures { λ r. ⌜ r ≡ changed (matchedRow number volume) d ⌝ }
 {
     let mut closed = emptied(d.accepted, d.warned, d.rejected);
     let mut n: usize = 0;
@@ -98,55 +100,83 @@ pub fn added(clock: u32, o: Order, d: Desk) -> Desk
     closed
 }
 
-// 9: "order number equal to that of an open row or a row cancelled at most 60,000 ms ago"
-pub fn number_live(clock: u32, number: u32, d: Desk) -> bool
-    ensures { λ r. ⌜ r ≡ any (liveWith clock number) (d .rows) ⌝ }
+// The row that 9, 10 and 11 look for: an open one with the number; or also one cancelled at most 60,000 ms ago; or only an open one with less than the volume.
+// By flags that is_wanted joins without a branch: a loop that branches on what is looked for is not compiled into its callers, and each call copies the desk.
+struct Wanted {
+    number: u32,
+    or_in_minute: bool,
+    clock: u32,
+    only_below: bool,
+    volume: u32,
+}
+
+fn wanted_open(number: u32) -> Wanted
+    ensures { λ w. ⌜ w ≡ wanted number false 0 false 0 ⌝ }
+{
+    Wanted {
+        number: number,
+        or_in_minute: false,
+        clock: 0,
+        only_below: false,
+        volume: 0,
+    }
+}
+
+fn is_wanted(w: Wanted, r: Row) -> bool
+    ensures { λ t. ⌜ t ≡ isWanted w r ⌝ }
+{
+    // An open row holds its number at any clock.
+    let held = holds_number(w.clock, w.number, r);
+    held & (w.or_in_minute | ((r.mark == OPEN_MARK) & (!w.only_below | (r.volume < w.volume))))
+}
+
+fn found(w: Wanted, d: Desk) -> bool
+    ensures { λ r. ⌜ r ≡ any (isWanted w) (d .rows) ⌝ }
 {
     let mut i: usize = 0;
     while i < DESK_ROWS {
-        if live_with(clock, number, d.rows[i]) {
+        if is_wanted(w, d.rows[i]) {
             return true;
         }
         i += 1;
     }
     false
+}
+
+// 9: "order number equal to that of an open row or a row cancelled at most 60,000 ms ago"
+pub fn number_held(clock: u32, number: u32, d: Desk) -> bool
+    ensures { λ r. ⌜ r ≡ any (holdsNumber clock number) (d .rows) ⌝ }
+{
+    let mut w = wanted_open(number);
+    w.or_in_minute = true;
+    w.clock = clock;
+    found(w, d)
 }
 
 // 10: "no open row with the number", where this is false
 pub fn number_open(number: u32, d: Desk) -> bool
     ensures { λ r. ⌜ r ≡ any (openWith number) (d .rows) ⌝ }
 {
-    let mut i: usize = 0;
-    while i < DESK_ROWS {
-        if open_with(number, d.rows[i]) {
-            return true;
-        }
-        i += 1;
-    }
-    false
+    found(wanted_open(number), d)
 }
 
 // 11: "match volume .. above the row's"
 pub fn volume_short(number: u32, volume: u32, d: Desk) -> bool
     ensures { λ r. ⌜ r ≡ any (openBelow number volume) (d .rows) ⌝ }
 {
-    let mut i: usize = 0;
-    while i < DESK_ROWS {
-        if open_below(number, volume, d.rows[i]) {
-            return true;
-        }
-        i += 1;
-    }
-    false
+    let mut w = wanted_open(number);
+    w.only_below = true;
+    w.volume = volume;
+    found(w, d)
 }
 
-// 12: "open rows and rows cancelled at most 60,000 ms ago are 32". The first row that is neither ends the loop, since only a desk with no such row is full.
+// 12: "open rows and rows cancelled at most 60,000 ms ago are 32", where no row of the 32 is neither.
 pub fn full(clock: u32, d: Desk) -> bool
-    ensures { λ r. ⌜ r ≡ eqb (count (live clock) (d .rows)) deskRows ⌝ }
+    ensures { λ r. ⌜ r ≡ eqb (count (openOrInMinute clock) (d .rows)) deskRows ⌝ }
 {
     let mut i: usize = 0;
     while i < DESK_ROWS {
-        if !is_live(clock, d.rows[i]) {
+        if !open_or_in_minute(clock, d.rows[i]) {
             return false;
         }
         i += 1;
@@ -156,10 +186,10 @@ pub fn full(clock: u32, d: Desk) -> bool
 
 // The desk that rows are put on one after the other, so that they close up.
 fn emptied(accepted: u32, warned: u32, rejected: u32) -> Desk
-    ensures { λ r. ⌜ r ≡ record { accepted = accepted; warned = warned; rejected = rejected; rows = replicate deskRows freeRow } ⌝ }
+    ensures { λ r. ⌜ r ≡ desk accepted warned rejected (replicate deskRows freeRow) ⌝ }
 {
     let free = free_row();
-    let rows = [free; 32];
+    let rows = [free; DESK_ROWS];
     Desk {
         accepted: accepted,
         warned: warned,

@@ -4,11 +4,5 @@ use borrow.Author.Needs.{needs}
 use Rattle.desks.proofs.emptied.Statement.{statement}
 use Rattle.desks.proofs.emptied.Tie as tie
 
-free-row-requires : tie.Need-free-row-requires
-free-row-requires c κs = search needs
-
-returns : tie.Need-returns
-returns c = rw (c .free-row .ensures)
-
 pub emptied-spec : {M : Type 1} → statement M
-emptied-spec = tie.close (tie.spec free-row-requires returns)
+emptied-spec = tie.close (tie.spec (λ c κs. search needs) (λ c. rw (c .free-row .ensures)))
