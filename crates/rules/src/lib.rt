@@ -1,45 +1,43 @@
-// Paper 01, "Verdicts, first that applies". A rule is given the session, the clock, one security, one desk and one order: no customer's
-// number and no words.
+// Paper 01, "Verdicts, first that applies". A rule is given what it may see: the market's view, one desk and one order, no customer's number and no words.
 ghost use mathlib.Core.Path.{_≡_};
 ghost use Rattle.definitions.specs.Rules.{verdictOf};
 use definitions::Desk;
+use definitions::MarketView;
 use definitions::Order;
-use definitions::Security;
 use definitions::Verdict;
 use definitions::codes::ONLINE;
-use market_rules::rule_q;
-use market_rules::rule_s;
-use market_rules::rule_v;
-use market_rules::warn_10;
-use market_rules::warn_30;
-use row_rules::concerns_p;
-use row_rules::rule_p;
-use row_rules::rule_w;
+use rule_market::rule_q;
+use rule_market::rule_s;
+use rule_market::rule_v;
+use rule_market::warn_10;
+use rule_market::warn_30;
+use rule_rows::covered_by_p;
+use rule_rows::rule_p;
+use rule_rows::rule_w;
 
-// The rows are walked only for an order that S, V and Q let pass. W and P are asked only of an order that they concern ("online only"),
-// since each call copies the desk.
-pub fn verdict(session: u32, clock: u32, s: Security, d: Desk, o: Order) -> Verdict
-    ensures { λ r. ⌜ r ≡ verdictOf session clock s d o ⌝ }
+// W and P are asked only of an order that they cover (W: "online only"), since each call copies the desk.
+pub fn verdict(m: MarketView, d: Desk, o: Order) -> Verdict
+    ensures { λ r. ⌜ r ≡ verdictOf (record { market = m; desk = d }) o ⌝ }
 {
-    if rule_s(session, s, o) {
+    if rule_s(m, o) {
         return Verdict::RejectS;
     }
-    if rule_v(s, o) {
+    if rule_v(m, o) {
         return Verdict::RejectV;
     }
-    if rule_q(session, s, o) {
+    if rule_q(m, o) {
         return Verdict::RejectQ;
     }
-    if o.channel == ONLINE && rule_w(session, s, d, o) {
+    if o.channel == ONLINE && rule_w(m, d, o) {
         return Verdict::RejectW;
     }
-    if concerns_p(session, o) && rule_p(session, clock, d, o) {
+    if covered_by_p(m.session, o) && rule_p(m, d, o) {
         return Verdict::RejectP;
     }
-    if warn_30(session, s, o) {
+    if warn_30(m, o) {
         return Verdict::Warn30;
     }
-    if warn_10(session, s, o) {
+    if warn_10(m, o) {
         return Verdict::Warn10;
     }
     Verdict::Accept
