@@ -1,0 +1,44 @@
+-- What a kind's function leaves where no condition is met: a security or a desk changed and put back.
+-- Assumes nothing.
+use mathlib.Core.List.{List, []}
+use mathlib.Core.Path.{_≡_, ap, sym, _∙_}
+use Prim.Native.Nat.{ℕ}
+use Rattle.definitions.specs.declared.Security.{Security}
+use Rattle.definitions.specs.declared.Desk.{Desk}
+use Rattle.definitions.specs.declared.Event.{Event}
+use Rattle.definitions.specs.declared.Answer.{Answer}
+use Rattle.definitions.specs.declared.Answer.the-variants as answer
+use Rattle.definitions.specs.State.{securityAt, deskAt, putSecurity, putDesk}
+use Rattle.definitions.specs.Gate.{done, resultOf, changeSecurity, changeDesk, perform}
+use Rattle.conditions.specs.First.{laterRefusal, laterOutcome}
+use Rattle.conditions.proofs.Laws.{later-done}
+use mathlib.Core.Bool.{Bool}
+use Rattle.definitions.specs.Lists.{any}
+use Rattle.definitions.specs.Desks.{openWith}
+use Rattle.definitions.specs.Refusals.{openBelow}
+
+-- an answer and the words after it
+abbrev pub Left : Type 0
+Left = Answer × List ℕ
+
+module _ (w : List ℕ) (e : Event) (none : laterRefusal w e ≡ 0) where
+  -- the words that are done, with any answer
+  pub words-done : (a : Answer) {v u : List ℕ} → perform w e ≡ done a u → v ≡ u → _≡_ {A = Left} (a, v) (resultOf w (laterOutcome w e))
+  words-done a does same =
+      later-done w e none (ap {B = Left} (λ (x : List ℕ). (a, x)) same ∙ ap (resultOf w) (sym does))
+
+  pub security-done : (f : Security → Security) (s : ℕ) → perform w e ≡ done answer.Ok (changeSecurity f s w) → {x y : Security} {v : List ℕ}
+      → x ≡ securityAt w s → y ≡ f x → v ≡ putSecurity w s y → _≡_ {A = Left} (answer.Ok, v) (resultOf w (laterOutcome w e))
+  security-done f s does ex ey ev = words-done answer.Ok does (ev ∙ ap (putSecurity w s) (ey ∙ ap f ex))
+
+  pub desk-done : (f : Desk → Desk) (k : ℕ) (a : Answer) → perform w e ≡ done a (changeDesk f k w) → {d y : Desk} {v : List ℕ}
+      → d ≡ deskAt w k → y ≡ f d → v ≡ putDesk w k y → _≡_ {A = Left} (a, v) (resultOf w (laterOutcome w e))
+  desk-done f k a does ed ey ev = words-done a does (ev ∙ ap (putDesk w k) (ey ∙ ap f ed))
+
+-- what a row's question says of the desk in the words, asked of the desk that was taken out
+module _ (w : List ℕ) (k number : ℕ) {d : Desk} {t : Bool} where
+  pub row-open : d ≡ deskAt w k → t ≡ any (openWith number) (d .rows) → any (openWith number) (deskAt w k .rows) ≡ t
+  row-open ed et = sym (et ∙ ap (λ (y : Desk). any (openWith number) (y .rows)) ed)
+
+  pub row-short : (volume : ℕ) → d ≡ deskAt w k → t ≡ any (openBelow number volume) (d .rows) → any (openBelow number volume) (deskAt w k .rows) ≡ t
+  row-short volume ed et = sym (et ∙ ap (λ (y : Desk). any (openBelow number volume) (y .rows)) ed)

@@ -1,0 +1,39 @@
+// Paper 01, "Events": kind 5, an order.
+ghost use mathlib.Core.Path.{_≡_};
+ghost use Rattle.definitions.specs.declared.Event.the-variants as event;
+ghost use Rattle.definitions.specs.Gate.{resultOf};
+ghost use Rattle.conditions.specs.First.{Ready, laterOutcome};
+use definitions::Answer;
+use definitions::MarketView;
+use definitions::Order;
+
+pub fn handle(words: &mut [u32], k: u32, o: Order) -> Answer
+    requires { ⌜ Ready (now words) (event.Order k o) ⌝ }
+    ensures { λ r. ⌜ (r, now (words .exit)) ≡ resultOf (now (words .entry)) (laterOutcome (now (words .entry)) (event.Order k o)) ⌝ }
+{
+    let h = state::header_of(words);
+    let security = state_records::security_at(words, o.security);
+    let m = MarketView {
+        session: h.session,
+        clock: h.clock,
+        security,
+    };
+    let d = state_records::desk_at(words, k);
+    if desks::number_held(m.clock, o.number, d) {
+        return Answer::Refused(9);
+    }
+    let v = rules::verdict(m, d, o);
+    if !desk_counters::takes_row(v, o) {
+        state_records::put_desk(words, k, desk_counters::counted(v, d));
+        return Answer::Verdict(v);
+    }
+    if desks::full(m.clock, d) {
+        return Answer::Refused(12);
+    }
+    state_records::put_desk(
+        words,
+        k,
+        desks::added(m.clock, o, desk_counters::counted(v, d)),
+    );
+    Answer::Verdict(v)
+}
