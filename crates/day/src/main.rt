@@ -5,19 +5,27 @@ ghost use Rattle.definitions.specs.Answers.{verdictText, refusedText, answerTex
 ghost use Rattle.day.specs.Text.{Opens};
 use definitions::Answer;
 use definitions::Verdict;
+use definitions::codes::DESK_SIZE;
+use definitions::codes::HEADER_SIZE;
+use definitions::codes::SECURITY_SIZE;
 use libc::STDIN_FILENO;
 use libc::STDOUT_FILENO;
-use reader::Step;
+use reader::Found;
 
-// 4 + 13 x 16 + 291 x 8 words.
-const WORDS: usize = 2540;
+const CUSTOMERS: u32 = 8;
+
+const SECURITIES: u32 = 16;
+
+const WORDS: usize = HEADER_SIZE
+    + SECURITY_SIZE * (SECURITIES as usize)
+    + DESK_SIZE * (CUSTOMERS as usize);
 
 // `refused ` and at most ten digits.
 const TEXT: usize = 18;
 
 fn main() {
     let mut words = [0u32; WORDS];
-    gate::make(&mut words, 8, 16);
+    gate::make(&mut words, CUSTOMERS, SECURITIES);
     let mut input = io::large_buffer();
     let length = io::read_full(STDIN_FILENO, &mut input);
     io::write_all(STDOUT_FILENO, b"screen 8 16\n");
@@ -28,8 +36,8 @@ fn list(words: &mut [u32], bytes: &[u8]) {
     let mut at = 0;
     let mut index = 0;
     while at < bytes.len() {
-        let step = reader::next_event(bytes, at);
-        let Step::Event(end) = step else {
+        let found = reader::next_event(bytes, at);
+        let Found::Event(end) = found else {
             return;
         };
         let answer = gate::handle(words, &bytes[at..end]);

@@ -1,14 +1,12 @@
 // What a user links: the gate and the ladder under C's calling convention. Answers are numbers (crates/definitions/specs/Answers.antt).
 ghost use mathlib.Core.Path.{_≡_};
-ghost use Rattle.ladder.specs.Ladder.{positionOf, priceAt};
-ghost use Rattle.definitions.specs.Rules.{positionNumber};
+ghost use Rattle.ladder.specs.Ladder.{positionOf, positionNumber, priceAt};
 ghost use Rattle.definitions.specs.Answers.{answerNumber};
-ghost use Rattle.definitions.specs.Gate.{answerOf, wordsOf, step, made};
+ghost use Rattle.definitions.specs.Gate.{answerOf, wordsOf, outcome, made};
 ghost use lib.ListN.{length, take};
 ghost use Rattle.definitions.specs.Walk.{split};
 ghost use Rattle.histories.specs.Ran.{Ran, cut};
 use ladder::Ladder;
-use ladder::Position;
 
 #[no_mangle]
 pub extern "C" fn guvontsira_make(words: &mut [u32], customers: u32, securities: u32) -> u32
@@ -22,8 +20,8 @@ pub extern "C" fn guvontsira_make(words: &mut [u32], customers: u32, securities:
 #[no_mangle]
 pub extern "C" fn guvontsira_handle(words: &mut [u32], event: &[u8]) -> u32
     ensures { λ r.
-        ⌜ (r ≡ answerNumber (answerOf (step (now (words .entry)) (now (event .entry)))))
-        × (now (words .exit) ≡ wordsOf (now (words .entry)) (step (now (words .entry)) (now (event .entry)))) ⌝ }
+        ⌜ (r ≡ answerNumber (answerOf (outcome (now (words .entry)) (now (event .entry)))))
+        × (now (words .exit) ≡ wordsOf (now (words .entry)) (outcome (now (words .entry)) (now (event .entry)))) ⌝ }
 {
     gate::answer_number(gate::handle(words, event))
 }
@@ -54,11 +52,7 @@ pub extern "C" fn guvontsira_run_list(
 pub extern "C" fn guvontsira_position(price: u32) -> u32
     ensures { λ r. ⌜ r ≡ positionNumber (positionOf price) ⌝ }
 {
-    let position = Ladder::position(price);
-    match position {
-        Position::At(k) => k,
-        Position::Off => 0,
-    }
+    Ladder::position_number(Ladder::position(price))
 }
 
 // 0 for a number that is no position.

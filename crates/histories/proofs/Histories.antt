@@ -8,18 +8,18 @@ use native.Mathlib.Nat.{add-sub-cancel-left}
 use native.Mathlib.Numerals.{add-one}
 use native.Mathlib.Omega.{arith}
 use lib.ListN.{length, getD, take, drop, set, drop-of-length-le, length-take, length-drop, length-set, take-append-drop}
-use lib.Seq.{take-all, drop-length, drop-drop, take-suc-set, drop-set-lt, getD-take, take-append-seam, drop-append-seam}
+use lib.Seq.{take-all, drop-length, drop-drop, take-suc-set, drop-set-lt, getD-take, take-append-seam, drop-append-seam, take-at}
 use borrow.Author.Tests.{ne-eqb}
 use Rattle.definitions.specs.Lists.{keep}
-use Rattle.definitions.specs.State.{sizesFit, fresh, deskWords}
-use Rattle.definitions.specs.Gate.{stepWords, stepAnswer, wordsAfter, answersTo}
-use Rattle.definitions.specs.Lone.{loneFresh, loneAfter, loneAnswers, concerns, marketWords, customerWords}
+use Rattle.definitions.specs.State.{sizesFit, fresh}
+use Rattle.definitions.specs.Gate.{eventWords, eventAnswer, wordsAfter, answersTo}
+use Rattle.definitions.specs.Lone.{isFed, marketWords, customerWords}
 use Rattle.definitions.specs.Walk.{taken, split}
 use Rattle.definitions.specs.Answers.{answerNumber}
 use Rattle.definitions.proofs.Lists.{drop-next}
-use Rattle.definitions.proofs.Demands.{isolated}
+use Rattle.definitions.proofs.Demands.{isolated, alike}
 use Rattle.reader.proofs.Laws.{EventAt}
-use Rattle.histories.specs.Ran.{picked, Ran, cut, Ends}
+use Rattle.histories.specs.Ran.{picked, Ran, cut, Ends, Alone}
 
 -- every event is answered
 abbrev pub every : List ℕ → Bool
@@ -53,13 +53,32 @@ split-next n b at end here =
 picked-numbers : (p : List ℕ → Bool) (w : List ℕ) (bs : List (List ℕ)) → picked p bs (numbers w bs) ≡ map answerNumber (answersTo p w bs)
 unfolding picked answersTo
 picked-numbers p w [] = refl
-picked-numbers p w (b ∷ bs) = go (p b) (picked-numbers p (stepWords w b) bs)
+picked-numbers p w (b ∷ bs) = go (p b) (picked-numbers p (eventWords w b) bs)
   where
-    go : (t : Bool) → picked p bs (numbers (stepWords w b) bs) ≡ map answerNumber (answersTo p (stepWords w b) bs)
-        → cond t (answerNumber (stepAnswer w b) ∷ picked p bs (numbers (stepWords w b) bs)) (picked p bs (numbers (stepWords w b) bs))
-        ≡ map answerNumber (cond t (stepAnswer w b ∷ answersTo p (stepWords w b) bs) (answersTo p (stepWords w b) bs))
-    go true ih = ap (λ (xs : List ℕ). answerNumber (stepAnswer w b) ∷ xs) ih
+    go : (t : Bool) → picked p bs (numbers (eventWords w b) bs) ≡ map answerNumber (answersTo p (eventWords w b) bs)
+        → cond t (answerNumber (eventAnswer w b) ∷ picked p bs (numbers (eventWords w b) bs)) (picked p bs (numbers (eventWords w b) bs))
+        ≡ map answerNumber (cond t (eventAnswer w b ∷ answersTo p (eventWords w b) bs) (answersTo p (eventWords w b) bs))
+    go true ih = ap (λ (xs : List ℕ). answerNumber (eventAnswer w b) ∷ xs) ih
     go false ih = ih
+
+length-numbers : (w : List ℕ) (bs : List (List ℕ)) → length (numbers w bs) ≡ length bs
+unfolding answersTo
+length-numbers w [] = refl
+length-numbers w (b ∷ bs) = ap suc (length-numbers (eventWords w b) bs)
+
+-- demand 3 of the words and the numbers that a history leaves
+alone-after : (customers securities : ℕ) → sizesFit customers securities ≡ true → (k : ℕ) → k < customers → (history : List (List ℕ)) {v xs : List ℕ}
+    → v ≡ wordsAfter (fresh customers securities) history → xs ≡ numbers (fresh customers securities) history → Alone customers securities k history xs v
+alone-after customers securities fit k below history ends written =
+    let i = isolated customers securities fit k below history in
+    record {
+      answers-same =
+          ap (picked (isFed customers k) history) written
+          ∙ picked-numbers (isFed customers k) (fresh customers securities) history
+          ∙ ap (map answerNumber) (i .answers);
+      market-same = ap marketWords ends ∙ i .market;
+      desk-same = ap (λ (u : List ℕ). customerWords u k) ends ∙ i .desk;
+    }
 
 -- what a loop over a history has done: count events are answered, and those that are left do the rest
 pub record SoFar (w₀ : List ℕ) (history : List (List ℕ)) (a₀ w a : List ℕ) (left : List (List ℕ)) (count : ℕ) : Type 0 where
@@ -76,7 +95,7 @@ begin w a history = record { long = refl; kept = refl; rest = refl; words = refl
 module _ (w₀ : List ℕ) (history : List (List ℕ)) (a₀ w a : List ℕ) (left : List (List ℕ)) (count : ℕ) (so-far : SoFar w₀ history a₀ w a left count) where
   -- one event more
   pub turn : (e : List ℕ) (more : List (List ℕ)) {v : List ℕ} {x : ℕ} → count < length a → left ≡ e ∷ more
-      → length v ≡ length w → v ≡ stepWords w e → x ≡ answerNumber (stepAnswer w e) → SoFar w₀ history a₀ v (set a count x) more (count + 1)
+      → length v ≡ length w → v ≡ eventWords w e → x ≡ answerNumber (eventAnswer w e) → SoFar w₀ history a₀ v (set a count x) more (count + 1)
   unfolding wordsAfter answersTo
   turn e more {v} {x} h events same ev ex =
       let stored : take (count + 1) (set a count x) ≡ take count a ++ (x ∷ []) = rw add-one (take-suc-set a count x h) in
@@ -91,8 +110,8 @@ module _ (w₀ : List ℕ) (history : List (List ℕ)) (a₀ w a : List ℕ) (le
         words = ap (λ (u : List ℕ). wordsAfter u more) ev ∙ ap (wordsAfter w) (sym events) ∙ so-far .words;
         answers =
             ap₂ (λ (t : List ℕ) (u : List ℕ). t ++ numbers u more) stored ev
-            ∙ append-assoc (take count a) (x ∷ []) (numbers (stepWords w e) more)
-            ∙ ap (λ (n : ℕ). take count a ++ (n ∷ numbers (stepWords w e) more)) ex
+            ∙ append-assoc (take count a) (x ∷ []) (numbers (eventWords w e) more)
+            ∙ ap (λ (n : ℕ). take count a ++ (n ∷ numbers (eventWords w e) more)) ex
             ∙ ap (λ (bs : List (List ℕ)). take count a ++ numbers w bs) (sym events)
             ∙ so-far .answers;
         counted = omega (arith, so-far .counted, ap length events);
@@ -111,17 +130,7 @@ module _ (w₀ : List ℕ) (history : List (List ℕ)) (a₀ w a : List ℕ) (le
         answers-written = sym (take-append-drop count a) ∙ ap₂ (λ (x y : List ℕ). x ++ y) written (so-far .rest);
         alone =
             λ customers securities fit start k below.
-            let i = isolated customers securities fit k below history in
-            let ends : w ≡ wordsAfter (fresh customers securities) history = after ∙ ap (λ (u : List ℕ). wordsAfter u history) start in
-            record {
-              answers-same =
-                  ap (picked (concerns customers k) history) written
-                  ∙ picked-numbers (concerns customers k) w₀ history
-                  ∙ ap (λ (u : List ℕ). map answerNumber (answersTo (concerns customers k) u history)) start
-                  ∙ ap (map answerNumber) (i .answers);
-              market-same = ap marketWords ends ∙ i .market;
-              desk-same = ap (λ (u : List ℕ). customerWords u k) ends ∙ i .desk;
-            };
+            alone-after customers securities fit k below history (after ∙ ap (λ (u : List ℕ). wordsAfter u history) start) (written ∙ ap (λ (u : List ℕ). numbers u history) start);
       }
 
 -- a loop over events one after another in bytes
@@ -140,7 +149,7 @@ walks-none w b a =
     }
 
 pub walks-next : (w₀ b a₀ w a : List ℕ) (at count end : ℕ) {v : List ℕ} {x : ℕ} → Walks w₀ b a₀ w a at count → count < length a → EventAt b at end
-    → length v ≡ length w → v ≡ stepWords w (take (end - at) (drop at b)) → x ≡ answerNumber (stepAnswer w (take (end - at) (drop at b)))
+    → length v ≡ length w → v ≡ eventWords w (take (end - at) (drop at b)) → x ≡ answerNumber (eventAnswer w (take (end - at) (drop at b)))
     → Walks w₀ b a₀ v (set a count x) end (count + 1)
 walks-next w₀ b a₀ w a at count end inv h here same ev ex =
     let one-more : length a₀ - count ≡ suc (length a₀ - (count + 1)) = omega (arith, inv .so-far .long) in
@@ -182,7 +191,7 @@ ends-within b at n h room =
     }
 
 pub cuts-next : (w₀ b ns a₀ w a : List ℕ) (at count end : ℕ) {v : List ℕ} {x : ℕ} → Cuts w₀ b ns a₀ w a at count → count < length a → count < length ns → Ends b at (getD ns count 0) end
-    → length v ≡ length w → v ≡ stepWords w (take (end - at) (drop at b)) → x ≡ answerNumber (stepAnswer w (take (end - at) (drop at b)))
+    → length v ≡ length w → v ≡ eventWords w (take (end - at) (drop at b)) → x ≡ answerNumber (eventAnswer w (take (end - at) (drop at b)))
     → Cuts w₀ b ns a₀ v (set a count x) end (count + 1)
 unfolding cut
 cuts-next w₀ b ns a₀ w a at count end inv h some here same ev ex =
@@ -218,29 +227,38 @@ every-history (e ∷ es) = rw (take-append-seam e (joined es), drop-append-seam 
 pub after-joined : (w : List ℕ) (h g : List (List ℕ)) → wordsAfter w (h ++ g) ≡ wordsAfter (wordsAfter w h) g
 unfolding wordsAfter
 after-joined w [] g = refl
-after-joined w (e ∷ h) g = after-joined (stepWords w e) h g
+after-joined w (e ∷ h) g = after-joined (eventWords w e) h g
 
 pub answers-joined : (w : List ℕ) (h g : List (List ℕ)) → numbers w (h ++ g) ≡ numbers w h ++ numbers (wordsAfter w h) g
 unfolding wordsAfter answersTo
 answers-joined w [] g = refl
-answers-joined w (e ∷ h) g = ap (λ (xs : List ℕ). answerNumber (stepAnswer w e) ∷ xs) (answers-joined (stepWords w e) h g)
+answers-joined w (e ∷ h) g = ap (λ (xs : List ℕ). answerNumber (eventAnswer w e) ∷ xs) (answers-joined (eventWords w e) h g)
 
 -- "Any two histories from fresh states of one size that hold the same market events and the same events of one customer, in the same order among
 -- themselves, are alike", of what two calls left
 pub record Alike (customers k : ℕ) (h g : List (List ℕ)) (answers others v x : List ℕ) : Type 0 where
-  pub answers-alike : picked (concerns customers k) h answers ≡ picked (concerns customers k) g others
+  pub answers-alike : picked (isFed customers k) h answers ≡ picked (isFed customers k) g others
   pub market : marketWords v ≡ marketWords x
   pub desk : customerWords v k ≡ customerWords x k
 
+ran-numbers : (w : List ℕ) (h : List (List ℕ)) {a : List ℕ} {m : ℕ} {v c : List ℕ} → Ran w h a m v c → take m c ≡ numbers w h
+ran-numbers w h {a} {m} ran =
+    ap (take m) (ran .answers-written) ∙ take-at (numbers w h) (drop m a) m (length-numbers w h ∙ sym (ran .events-counted))
+
 pub ran-alike : (customers securities k : ℕ) → sizesFit customers securities ≡ true → k < customers → (h g : List (List ℕ)) {a b : List ℕ} {m n : ℕ} {v c x d : List ℕ}
-    → Ran (fresh customers securities) h a m v c → Ran (fresh customers securities) g b n x d → keep (concerns customers k) h ≡ keep (concerns customers k) g
+    → Ran (fresh customers securities) h a m v c → Ran (fresh customers securities) g b n x d → keep (isFed customers k) h ≡ keep (isFed customers k) g
     → Alike customers k h g (take m c) (take n d) v x
 ran-alike customers securities k fit below h g one other same =
-    let lone = loneFresh customers securities in
-    let p = one .alone customers securities fit refl k below in
-    let q = other .alone customers securities fit refl k below in
+    let start = fresh customers securities in
+    let fed = isFed customers k in
+    let both = alike customers securities fit k below h g same in
     record {
-      answers-alike = p .answers-same ∙ ap (λ (es : List (List ℕ)). map answerNumber (loneAnswers lone es)) same ∙ sym (q .answers-same);
-      market = p .market-same ∙ ap (λ (es : List (List ℕ)). loneAfter lone es .market) same ∙ sym (q .market-same);
-      desk = p .desk-same ∙ ap (λ (es : List (List ℕ)). deskWords (loneAfter lone es .desk)) same ∙ sym (q .desk-same);
+      answers-alike =
+          ap (picked fed h) (ran-numbers start h one)
+          ∙ picked-numbers fed start h
+          ∙ ap (map answerNumber) (both .answers)
+          ∙ sym (picked-numbers fed start g)
+          ∙ sym (ap (picked fed g) (ran-numbers start g other));
+      market = ap marketWords (one .words-after) ∙ both .market ∙ sym (ap marketWords (other .words-after));
+      desk = ap (λ (u : List ℕ). customerWords u k) (one .words-after) ∙ both .desk ∙ sym (ap (λ (u : List ℕ). customerWords u k) (other .words-after));
     }

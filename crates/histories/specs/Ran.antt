@@ -7,7 +7,7 @@ use lib.ListN.{length, take, drop}
 use Rattle.definitions.specs.Lists.{keep}
 use Rattle.definitions.specs.State.{sizesFit, fresh, deskWords}
 use Rattle.definitions.specs.Gate.{wordsAfter, answersTo}
-use Rattle.definitions.specs.Lone.{loneFresh, loneAfter, loneAnswers, concerns, marketWords, customerWords}
+use Rattle.definitions.specs.Lone.{loneFresh, loneAfter, loneAnswers, isFed, marketWords, customerWords}
 use Rattle.definitions.specs.Answers.{answerNumber}
 
 -- of the answers to some events, those to the events that a test picks
@@ -18,9 +18,9 @@ picked p (b ∷ bs) (x ∷ xs) = cond (p b) (x ∷ picked p bs xs) (picked p bs 
 
 -- "these answers, rows, counters and words are exactly those of the lone run": the answers as numbers, the market's words, every word of k's desk
 pub record Alone (customers securities k : ℕ) (history : List (List ℕ)) (answers words : List ℕ) : Type 0 where
-  pub answers-same : picked (concerns customers k) history answers ≡ map answerNumber (loneAnswers (loneFresh customers securities) (keep (concerns customers k) history))
-  pub market-same : marketWords words ≡ loneAfter (loneFresh customers securities) (keep (concerns customers k) history) .market
-  pub desk-same : customerWords words k ≡ deskWords (loneAfter (loneFresh customers securities) (keep (concerns customers k) history) .desk)
+  pub answers-same : picked (isFed customers k) history answers ≡ map answerNumber (loneAnswers (loneFresh customers securities) (keep (isFed customers k) history))
+  pub market-same : marketWords words ≡ loneAfter (loneFresh customers securities) (keep (isFed customers k) history) .market
+  pub desk-same : customerWords words k ≡ deskWords (loneAfter (loneFresh customers securities) (keep (isFed customers k) history) .desk)
 
 -- the words w, a history and the places a for answers came; the count, the words v and the answers c are left
 pub record Ran (w : List ℕ) (history : List (List ℕ)) (a : List ℕ) (count : ℕ) (v c : List ℕ) : Type 0 where

@@ -5,7 +5,7 @@ ghost use Rattle.definitions.specs.Walk.{split};
 ghost use Rattle.histories.specs.Ran.{Ran, cut, Ends};
 use gate::answer_number;
 use gate::handle;
-use reader::Step;
+use reader::Found;
 
 // Handles as many events as there are places for answers, writes the number of each answer to its place, and gives the count. The contract carries
 // demand 3 to the code: over a fresh state, what the words and the answers hold of the market and of each customer is what that customer's lone run
@@ -17,8 +17,8 @@ pub fn run(words: &mut [u32], events: &[u8], answers: &mut [u32]) -> usize
     let mut at = 0;
     let mut count = 0;
     while count < answers.len() {
-        let step = reader::next_event(events, at);
-        let Step::Event(end) = step else {
+        let found = reader::next_event(events, at);
+        let Found::Event(end) = found else {
             return count;
         };
         answers[count] = answer_number(handle(words, &events[at..end]));

@@ -17,8 +17,8 @@ abbrev μ-loop : tie.MeasureT-loop
 μ-loop words₀ bytes at₀ index₀ words at index = length bytes - at
 
 -- the event that the reader found
-here : (c : tie.After-step Inv-loop μ-loop) → EventAt (c .before .before .before .before .before .before .before .args .bytes .now) (c .before .before .before .before .loop .at) (c .step .given .0 .0)
-here c = event-at _ _ _ (sym (c .before .before .next-event .ensures) ∙ c .step .given .1)
+here : (c : tie.After-found Inv-loop μ-loop) → EventAt (c .before .before .before .before .before .before .before .args .bytes .now) (c .before .before .before .before .loop .at) (c .found .given .0 .0)
+here c = event-at _ _ _ (sym (c .before .before .next-event .ensures) ∙ c .found .given .1)
 
 loop-holds : tie.Need-loop-holds Inv-loop μ-loop
 loop-holds c = (omega arith, omega arith, refl)
@@ -26,8 +26,8 @@ loop-holds c = (omega arith, omega arith, refl)
 next-event-requires : tie.Need-next-event-requires Inv-loop μ-loop
 next-event-requires c κs = search needs
 
-enum-known-step : tie.Need-enum-known-step Inv-loop μ-loop
-enum-known-step c = search needs
+enum-known-found : tie.Need-enum-known-found Inv-loop μ-loop
+enum-known-found c = search needs
 
 enum-told : tie.Need-enum-told Inv-loop μ-loop
 enum-told c = search needs
@@ -81,7 +81,7 @@ list-spec =
     μ-loop
     loop-holds
     next-event-requires
-    enum-known-step
+    enum-known-found
     enum-told
     same-length
     returns

@@ -5,7 +5,7 @@ use Prim.Native.Nat.{_≤_}
 use native.Mathlib.Omega.{arith}
 use lib.ListN.{take, length-take, length-drop}
 use borrow.Author.Needs.{needs}
-use Rattle.definitions.specs.Answers.{ascii, decimal}
+use Rattle.definitions.specs.Answers.{ascii, decimalIn}
 use Rattle.day.proofs.Laws.{copied, opens-both, few-digits, same-decimal}
 use Rattle.day.proofs.refused_text.Statement.{statement}
 use Rattle.day.proofs.refused_text.Tie as tie
@@ -14,7 +14,7 @@ use Rattle.day.proofs.refused_text.Tie as tie
 few : (c : tie.After-decimal) → c .decimal .result ≤ 10
 few c = few-digits 10 _ _ (omega arith) (omega arith) (c .decimal .ensures .1 .0)
 
-spelled : (c : tie.After-decimal) → take (c .decimal .result) (c .decimal .last .1 .0) ≡ decimal (c .before .before .before .args .n)
+spelled : (c : tie.After-decimal) → take (c .decimal .result) (c .decimal .last .1 .0) ≡ decimalIn 10 (c .before .before .before .args .n)
 spelled c = c .decimal .ensures .1 .1 ∙ sym (same-decimal 10 _ _ (few c) (c .decimal .ensures .1 .0))
 
 decimal-requires : tie.Need-decimal-requires
@@ -55,7 +55,7 @@ unfolding ascii
 returns c =
     opens-both
     (ascii "refused ")
-    (decimal (c .before .before .before .before .before .before .before .before .before .before .before .before .before .args .n))
+    (decimalIn 10 (c .before .before .before .before .before .before .before .before .before .before .before .before .before .args .n))
     _ _ _ _ _
     (copied (ascii "refused ") _ _ _ (c .before .before .before .before .before .before .before .copy .ensures .0) (c .before .before .before .before .before .before .before .copy .ensures .1))
     (rw (spelled (c .before .before .before .before .before .before .before .before .before .before)) at

@@ -5,7 +5,7 @@ use mathlib.Core.Path.{_≡_, sym, _∙_}
 use borrow.Author.Needs.{needs}
 use borrow.Author.Tests.{not-true, not-false}
 use Rattle.definitions.specs.State.{stateFits}
-use Rattle.gate.proofs.Steps.{step-misfit, step-refused, step-whole}
+use Rattle.gate.proofs.Outcomes.{outcome-misfit, outcome-refused, outcome-whole}
 use Rattle.gate.proofs.handle.Statement.{statement}
 use Rattle.gate.proofs.handle.Tie as tie
 
@@ -20,7 +20,7 @@ same-length : tie.Need-same-length
 same-length c = search needs
 
 returns : tie.Need-returns
-returns c = step-misfit _ _ (sym (c .before .state-fits .ensures) ∙ not-true _ (c .if1 .taken))
+returns c = outcome-misfit _ _ (sym (c .before .state-fits .ensures) ∙ not-true _ (c .if1 .taken))
 
 read-event-requires : tie.Need-read-event-requires
 read-event-requires c κs = search needs
@@ -38,7 +38,7 @@ same-length-2 : tie.Need-same-length-2
 same-length-2 c = search needs
 
 returns-2 : tie.Need-returns-2
-returns-2 c = step-refused _ _ (fits (c .before .before .before .before)) (c .before .before .before .read-event .ensures) (c .before .enum-told .given .1) (c .refused .ensures)
+returns-2 c = outcome-refused _ _ (fits (c .before .before .before .before)) (c .before .before .before .read-event .ensures) (c .before .enum-told .given .1) (c .refused .ensures)
 
 apply-requires : tie.Need-apply-requires
 apply-requires c κs = fits (c .before .before .before .before .before)
@@ -47,7 +47,7 @@ same-length-3 : tie.Need-same-length-3
 same-length-3 c = search needs
 
 returns-3 : tie.Need-returns-3
-returns-3 c = step-whole _ _ (fits (c .before .before .before .before .before .before .before .before)) (c .before .before .before .before .before .before .before .read-event .ensures) (c .before .before .before .before .before .reading .given .1) (c .before .before .apply .ensures)
+returns-3 c = outcome-whole _ _ (fits (c .before .before .before .before .before .before .before .before)) (c .before .before .before .before .before .before .before .read-event .ensures) (c .before .before .before .before .before .reading .given .1) (c .before .before .apply .ensures)
 
 pub handle-spec : {M : Type 1} → statement M
 handle-spec =

@@ -6,7 +6,7 @@ use lib.ListN.{length}
 use borrow.Author.Needs.{needs}
 use borrow.Author.Tests.{not-true, not-false}
 use Rattle.definitions.specs.State.{sizesFit, stateSize}
-use Rattle.gate.proofs.Steps.{make-misfit, make-other-length, make-done}
+use Rattle.gate.proofs.Outcomes.{make-misfit, make-other-length, make-done}
 use Rattle.gate.proofs.make.Statement.{statement}
 use Rattle.gate.proofs.make.Tie as tie
 

@@ -3,7 +3,7 @@
 use mathlib.Core.Path.{ap, _∙_}
 use borrow.Author.Needs.{needs}
 use Rattle.definitions.specs.Answers.{answerNumber}
-use Rattle.definitions.specs.Gate.{Result}
+use Rattle.gate.proofs.Outcomes.{Left}
 use Rattle.guvontsira.proofs.guvontsira_make.Statement.{statement}
 use Rattle.guvontsira.proofs.guvontsira_make.Tie as tie
 
@@ -18,8 +18,8 @@ same-length c = search needs
 
 returns : tie.Need-returns
 returns c = (
-  c .answer-number .ensures ∙ ap answerNumber (ap (λ (x : Result). x .answer) (c .before .before .before .make .ensures)),
-  ap (λ (x : Result). x .words) (c .before .before .before .make .ensures),
+  c .answer-number .ensures ∙ ap answerNumber (ap (λ (x : Left). x .0) (c .before .before .before .make .ensures)),
+  ap (λ (x : Left). x .1) (c .before .before .before .make .ensures),
 )
 
 pub guvontsira-make-spec : {M : Type 1} → statement M

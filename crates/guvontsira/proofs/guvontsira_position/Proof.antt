@@ -1,26 +1,13 @@
--- `guvontsira::guvontsira_position` meets its contract: by cases on the position.
+-- `guvontsira::guvontsira_position` meets its contract: the ladder's position, as its number.
 -- Assumes nothing.
-use mathlib.Core.Path.{ap, sym, _∙_}
+use mathlib.Core.Path.{ap, _∙_}
 use borrow.Author.Needs.{needs}
-use Rattle.definitions.specs.Rules.{positionNumber}
+use Rattle.ladder.specs.Ladder.{positionNumber}
 use Rattle.guvontsira.proofs.guvontsira_position.Statement.{statement}
 use Rattle.guvontsira.proofs.guvontsira_position.Tie as tie
 
-position-requires : tie.Need-position-requires
-position-requires c κs = search needs
-
-enum-known-position : tie.Need-enum-known-position
-enum-known-position c = search needs
-
-enum-told : tie.Need-enum-told
-enum-told c = search needs
-
 returns : tie.Need-returns
-returns c = sym (ap positionNumber (c .before .position2 .given .1)) ∙ ap positionNumber (c .before .before .before .position .ensures)
-
-returns-2 : tie.Need-returns-2
-returns-2 c = sym (ap positionNumber (c .enum-told .given .1)) ∙ ap positionNumber (c .before .before .position .ensures)
+returns c = c .position-number .ensures ∙ ap positionNumber (c .before .position .ensures)
 
 pub guvontsira-position-spec : {M : Type 1} → statement M
-guvontsira-position-spec =
-    tie.close (tie.spec position-requires enum-known-position enum-told returns returns-2)
+guvontsira-position-spec = tie.close (tie.spec (λ c κs. search needs) (λ c κs. search needs) returns)

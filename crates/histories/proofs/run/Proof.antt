@@ -7,7 +7,7 @@ use native.Mathlib.Omega.{arith}
 use lib.ListN.{length}
 use borrow.Author.Needs.{needs}
 use Rattle.definitions.specs.Answers.{answerNumber}
-use Rattle.definitions.specs.Gate.{Result}
+use Rattle.gate.proofs.Outcomes.{Left}
 use Rattle.reader.proofs.Laws.{EventAt, event-at, end-at}
 use Rattle.histories.proofs.Histories.{Walks, walks-none, walks-next, finish, split-none, none-left}
 use Rattle.histories.proofs.run.Statement.{statement}
@@ -20,8 +20,8 @@ abbrev μ-loop : tie.MeasureT-loop
 μ-loop words₀ events answers₀ at₀ count₀ words answers at count = length answers₀ - count
 
 -- the event that the reader found
-here : (c : tie.After-step Inv-loop μ-loop) → EventAt (c .before .before .before .before .before .before .before .before .args .events .now) (c .before .before .before .before .loop .at) (c .step .given .0 .0)
-here c = event-at _ _ _ (sym (c .before .before .next-event .ensures) ∙ c .step .given .1)
+here : (c : tie.After-found Inv-loop μ-loop) → EventAt (c .before .before .before .before .before .before .before .before .args .events .now) (c .before .before .before .before .loop .at) (c .found .given .0 .0)
+here c = event-at _ _ _ (sym (c .before .before .next-event .ensures) ∙ c .found .given .1)
 
 -- there is room for its answer
 room : (c : tie.In-loop Inv-loop μ-loop) → c .before .loop .count < length (c .before .before .before .before .before .args .answers .now)
@@ -33,8 +33,8 @@ loop-holds c = walks-none _ _ _
 next-event-requires : tie.Need-next-event-requires Inv-loop μ-loop
 next-event-requires c κs = search needs
 
-enum-known-step : tie.Need-enum-known-step Inv-loop μ-loop
-enum-known-step c = search needs
+enum-known-found : tie.Need-enum-known-found Inv-loop μ-loop
+enum-known-found c = search needs
 
 enum-told : tie.Need-enum-told Inv-loop μ-loop
 enum-told c = search needs
@@ -80,8 +80,8 @@ loop-again : tie.Need-loop-again Inv-loop μ-loop
 loop-again c =
     let test = c .before .before .before .before .before .before .before .before .before .before in
     walks-next _ _ _ _ _ _ _ _ (test .before .loop .inv) (test .loop-test .taken) (here (c .before .before .before .before .before .before .before)) (c .before .before .before .handle .kept .0)
-    (ap (λ (x : Result). x .words) (c .before .before .before .handle .ensures))
-    (c .answer-number .ensures ∙ ap answerNumber (ap (λ (x : Result). x .answer) (c .before .before .before .handle .ensures)))
+    (ap (λ (x : Left). x .1) (c .before .before .before .handle .ensures))
+    (c .answer-number .ensures ∙ ap answerNumber (ap (λ (x : Left). x .0) (c .before .before .before .handle .ensures)))
 
 same-length-3 : tie.Need-same-length-3 Inv-loop μ-loop
 same-length-3 c = c .before .loop .inv .so-far .kept
@@ -102,7 +102,7 @@ run-spec =
     μ-loop
     loop-holds
     next-event-requires
-    enum-known-step
+    enum-known-found
     enum-told
     same-length
     same-length-2

@@ -6,7 +6,7 @@ use native.Mathlib.Omega.{arith}
 use lib.ListN.{length, drop}
 use borrow.Author.Needs.{needs}
 use Rattle.definitions.specs.Answers.{answerNumber}
-use Rattle.definitions.specs.Gate.{Result}
+use Rattle.gate.proofs.Outcomes.{Left}
 use Rattle.histories.proofs.Histories.{Cuts, cuts-none, cuts-next, cuts-end, finish}
 use Rattle.histories.proofs.run_list.Statement.{statement}
 use Rattle.histories.proofs.run_list.Tie as tie
@@ -86,8 +86,8 @@ loop-again c =
     let some = c .before .before .before .before .before .before .before .before .if1 .left in
     let ends = c .before .before .before .before .before .before .end-of .ensures in
     cuts-next _ _ _ _ _ _ _ _ _ (test .before .loop .inv) (test .loop-test .taken) some ends (done .kept .0)
-    (ap (λ (x : Result). x .words) (done .ensures))
-    (c .answer-number .ensures ∙ ap answerNumber (ap (λ (x : Result). x .answer) (done .ensures)))
+    (ap (λ (x : Left). x .1) (done .ensures))
+    (c .answer-number .ensures ∙ ap answerNumber (ap (λ (x : Left). x .0) (done .ensures)))
 
 same-length-3 : tie.Need-same-length-3 Inv-loop μ-loop
 same-length-3 c = c .before .loop .inv .so-far .kept
