@@ -12,13 +12,13 @@ use definitions::codes::LAST_TIME;
 use definitions::codes::MP;
 use definitions::codes::PRE_CLOSE;
 use definitions::codes::SELL;
+use securities::sound_prices;
+use securities::sound_prior;
+use securities::sound_terms;
 use state_soundness::all_sound;
 use state_soundness::priced_as;
 use state_soundness::sound_desk_at;
-use state_soundness::sound_prices;
-use state_soundness::sound_prior;
 use state_soundness::sound_security_at;
-use state_soundness::sound_terms;
 
 // The number of the first condition that is met; 0 where none is. No record is read before the event's own fields have passed. One match, and a return at
 // each condition: the compiler then goes on from an event that has passed to the function of its kind without a second match.

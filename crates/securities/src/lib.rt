@@ -1,12 +1,16 @@
-// A security taken out of the words: the prices of one of its boards, and what becomes of it.
+// A security taken out of the words: the prices of one of its boards, what becomes of it, and when it is sound.
 ghost use mathlib.Core.Path.{_≡_};
 ghost use Rattle.definitions.specs.Gate.{afterPrices, afterSetup, noProjected, withPrices, withoutProjected};
 ghost use Rattle.definitions.specs.Rules.{pricesOn};
+ghost use Rattle.definitions.specs.Sound.{priceOrAbsent, soundPrices, soundPrior, soundSecurity, soundTerms};
 use definitions::BoardPrices;
 use definitions::Prices;
+use definitions::PriorPrices;
 use definitions::Security;
 use definitions::Setup;
+use definitions::Terms;
 use definitions::codes::FOREIGN_BOARD;
+use ladder::Ladder;
 
 pub fn prices_on(s: Security, board: u32) -> Prices
     ensures { λ r. ⌜ r ≡ pricesOn s board ⌝ }
@@ -71,4 +75,38 @@ pub fn without_projected(s: Security) -> Security
     ensures { λ r. ⌜ r ≡ withoutProjected s ⌝ }
 {
     with_prices(no_projected(s.main), no_projected(s.foreign), s)
+}
+
+// "lot and flags have listed values"
+pub fn sound_terms(t: Terms) -> bool
+    ensures { λ r. ⌜ r ≡ soundTerms t ⌝ }
+{
+    ((t.lot == 1) | (t.lot == 50) | (t.lot == 100)) & (t.free <= 1) & (t.first_day <= 1)
+}
+
+fn price_or_absent(p: u32) -> bool
+    ensures { λ r. ⌜ r ≡ priceOrAbsent p ⌝ }
+{
+    (p == 0) | Ladder::legal(p)
+}
+
+pub fn sound_prior(p: PriorPrices) -> bool
+    ensures { λ r. ⌜ r ≡ soundPrior p ⌝ }
+{
+    price_or_absent(p.close) & (p.ipo <= Ladder::LAST_PRICE)
+}
+
+pub fn sound_prices(p: Prices) -> bool
+    ensures { λ r. ⌜ r ≡ soundPrices p ⌝ }
+{
+    price_or_absent(p.projected)
+        & price_or_absent(p.last_sale)
+        & price_or_absent(p.bid)
+        & price_or_absent(p.offer)
+}
+
+pub fn sound_security(s: Security) -> bool
+    ensures { λ r. ⌜ r ≡ soundSecurity s ⌝ }
+{
+    sound_terms(s.terms) & sound_prior(s.prior) & sound_prices(s.main) & sound_prices(s.foreign)
 }

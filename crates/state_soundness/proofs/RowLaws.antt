@@ -126,15 +126,15 @@ apart-last (x ∷ xs) k =
         rw (e, other, or-false) (sym (and-assoc (not (any (equals x) xs)) (apart xs) (not (any (equals k) xs))))
 
 -- a loop that tests the marked rows and notes their numbers
-pub record Walked (securities clock : ℕ) (w : List ℕ) (count : ℕ) (ok : Bool) (numbers : List ℕ) (i : ℕ) : Type 0 where
+pub record SoundSoFar (securities clock : ℕ) (w : List ℕ) (count : ℕ) (ok : Bool) (numbers : List ℕ) (i : ℕ) : Type 0 where
   pub so-far : ok ≡ soundLeading securities clock (rowsOf i w)
   pub noted : take i numbers ≡ map rowNumber (rowsOf i w)
   pub to : i ≤ count
   pub long : length numbers ≡ deskRows
 
-pub walked-none : (securities clock count : ℕ) (w numbers : List ℕ) → length numbers ≡ deskRows → Walked securities clock w count true numbers 0
+pub sound-start : (securities clock count : ℕ) (w numbers : List ℕ) → length numbers ≡ deskRows → SoundSoFar securities clock w count true numbers 0
 unfolding soundLeading rowsOf all apart
-walked-none securities clock count w numbers long = record { so-far = refl; noted = refl; to = omega arith; long = long }
+sound-start securities clock count w numbers long = record { so-far = refl; noted = refl; to = omega arith; long = long }
 
 regroup : (a b c d : Bool) → (a && b && c && d) ≡ ((a && c) && (b && d))
 regroup true b c d = go b c d
@@ -146,12 +146,12 @@ regroup true b c d = go b c d
     go false false d = refl
 regroup false b c d = refl
 
-pub walked-next : {securities clock : ℕ} {w : List ℕ} {count : ℕ} {ok : Bool} {numbers : List ℕ} {i : ℕ} {r : Row} {twice sound : Bool} → i < count → count ≤ deskRows
-    → Walked securities clock w count ok numbers i → r ≡ rowOf (take (rowSize * i + rowSize - rowSize * i) (drop (rowSize * i) w))
+pub sound-next : {securities clock : ℕ} {w : List ℕ} {count : ℕ} {ok : Bool} {numbers : List ℕ} {i : ℕ} {r : Row} {twice sound : Bool} → i < count → count ≤ deskRows
+    → SoundSoFar securities clock w count ok numbers i → r ≡ rowOf (take (rowSize * i + rowSize - rowSize * i) (drop (rowSize * i) w))
     → twice ≡ any (equals (r .number)) (take i numbers) → sound ≡ soundMarked securities clock r
-    → Walked securities clock w count (ok && sound && not twice) (set numbers i (r .number)) (i + 1)
+    → SoundSoFar securities clock w count (ok && sound && not twice) (set numbers i (r .number)) (i + 1)
 unfolding soundLeading all
-walked-next {securities} {clock} {w} {count} {ok} {numbers} {i} {r} {twice} {sound} h most inv e f g =
+sound-next {securities} {clock} {w} {count} {ok} {numbers} {i} {r} {twice} {sound} h most inv e f g =
     let place : i < length numbers = omega (arith, inv .long) in
     let size : rowSize * i + rowSize - rowSize * i ≡ rowSize = omega arith in
     let row : r ≡ rowOf (take rowSize (drop (rowSize * i) w)) = e ∙ ap (λ (n : ℕ). rowOf (take n (drop (rowSize * i) w))) size in
@@ -166,9 +166,9 @@ walked-next {securities} {clock} {w} {count} {ok} {numbers} {i} {r} {twice} {sou
       long = length-set numbers i (r .number) ∙ inv .long;
     }
 
-pub walked-end : {securities clock : ℕ} {w : List ℕ} {count : ℕ} {ok : Bool} {numbers : List ℕ} {i : ℕ} → count ≤ i
-    → Walked securities clock w count ok numbers i → ok ≡ soundLeading securities clock (rowsOf count w)
-walked-end {securities} {clock} {w} {count} {i = i} h inv = let end : i ≡ count = omega (arith, inv .to) in rw end at (inv .so-far)
+pub sound-end : {securities clock : ℕ} {w : List ℕ} {count : ℕ} {ok : Bool} {numbers : List ℕ} {i : ℕ} → count ≤ i
+    → SoundSoFar securities clock w count ok numbers i → ok ≡ soundLeading securities clock (rowsOf count w)
+sound-end {securities} {clock} {w} {count} {i = i} h inv = let end : i ≡ count = omega (arith, inv .to) in rw end at (inv .so-far)
 
 -- rows that are all zero, as words
 zero-rows : (n : ℕ) (w : List ℕ) → length w ≡ rowSize * n → all (equals 0) w ≡ all allZero (rowsOf n w)

@@ -3,13 +3,9 @@ ghost use mathlib.Core.Path.{_≡_};
 ghost use Prim.Native.Nat.{_+_, _≤_};
 ghost use lib.ListN.{length};
 ghost use Rattle.definitions.specs.Gate.{soundSecurityAt};
-ghost use Rattle.definitions.specs.Sound.{soundTerms, priceOrAbsent, soundPrior, soundPrices, soundSecurity, pricedAs, openOrCancelled, soundMarked};
+ghost use Rattle.definitions.specs.Sound.{pricedAs, openOrCancelled, soundMarked};
 ghost use Rattle.definitions.specs.State.{securitySize, securityPlace};
-use definitions::Prices;
-use definitions::PriorPrices;
 use definitions::Row;
-use definitions::Security;
-use definitions::Terms;
 use definitions::codes::ATC;
 use definitions::codes::CANCELLED_MARK;
 use definitions::codes::FOREIGN_BOARD;
@@ -18,41 +14,8 @@ use definitions::codes::MAX_VOLUME;
 use definitions::codes::OPEN_MARK;
 use definitions::codes::SELL;
 use ladder::Ladder;
+use securities::sound_security;
 use state_records::security_at;
-
-// "lot and flags have listed values"
-pub fn sound_terms(t: Terms) -> bool
-    ensures { λ r. ⌜ r ≡ soundTerms t ⌝ }
-{
-    ((t.lot == 1) | (t.lot == 50) | (t.lot == 100)) & (t.free <= 1) & (t.first_day <= 1)
-}
-
-fn price_or_absent(p: u32) -> bool
-    ensures { λ r. ⌜ r ≡ priceOrAbsent p ⌝ }
-{
-    (p == 0) | Ladder::legal(p)
-}
-
-pub fn sound_prior(p: PriorPrices) -> bool
-    ensures { λ r. ⌜ r ≡ soundPrior p ⌝ }
-{
-    price_or_absent(p.close) & (p.ipo <= Ladder::LAST_PRICE)
-}
-
-pub fn sound_prices(p: Prices) -> bool
-    ensures { λ r. ⌜ r ≡ soundPrices p ⌝ }
-{
-    price_or_absent(p.projected)
-        & price_or_absent(p.last_sale)
-        & price_or_absent(p.bid)
-        & price_or_absent(p.offer)
-}
-
-fn sound_security(s: Security) -> bool
-    ensures { λ r. ⌜ r ≡ soundSecurity s ⌝ }
-{
-    sound_terms(s.terms) & sound_prior(s.prior) & sound_prices(s.main) & sound_prices(s.foreign)
-}
 
 // One function, so that the test of thirteen words is compiled once.
 pub fn sound_security_at(words: &[u32], s: u32) -> bool

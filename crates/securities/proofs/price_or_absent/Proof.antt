@@ -1,8 +1,8 @@
--- `state_soundness::sound::price_or_absent` meets its contract: the ladder tells its legal prices.
+-- `securities::price_or_absent` meets its contract: the ladder tells its legal prices.
 -- Assumes nothing.
 use borrow.Author.Needs.{needs}
-use Rattle.state_soundness.proofs.sound.price_or_absent.Statement.{statement}
-use Rattle.state_soundness.proofs.sound.price_or_absent.Tie as tie
+use Rattle.securities.proofs.price_or_absent.Statement.{statement}
+use Rattle.securities.proofs.price_or_absent.Tie as tie
 
 returns : tie.Need-returns
 returns c = rw (c .legal .ensures)

@@ -1,8 +1,8 @@
--- `state_soundness::sound::sound_prices` meets its contract: each of its four prices is asked.
+-- `securities::sound_prices` meets its contract: each of its four prices is asked.
 -- Assumes nothing.
 use borrow.Author.Needs.{needs}
-use Rattle.state_soundness.proofs.sound.sound_prices.Statement.{statement}
-use Rattle.state_soundness.proofs.sound.sound_prices.Tie as tie
+use Rattle.securities.proofs.sound_prices.Statement.{statement}
+use Rattle.securities.proofs.sound_prices.Tie as tie
 
 returns : tie.Need-returns
 returns c =

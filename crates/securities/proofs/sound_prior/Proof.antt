@@ -1,7 +1,7 @@
--- `state_soundness::sound::sound_prior` meets its contract: the close as any price, and the IPO price to the ladder's last.
+-- `securities::sound_prior` meets its contract: the close as any price, and the IPO price to the ladder's last.
 -- Assumes nothing.
-use Rattle.state_soundness.proofs.sound.sound_prior.Statement.{statement}
-use Rattle.state_soundness.proofs.sound.sound_prior.Tie as tie
+use Rattle.securities.proofs.sound_prior.Statement.{statement}
+use Rattle.securities.proofs.sound_prior.Tie as tie
 
 returns : tie.Need-returns
 returns c = rw (c .before .price-or-absent .ensures)

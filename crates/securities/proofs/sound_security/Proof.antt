@@ -1,8 +1,8 @@
--- `state_soundness::sound::sound_security` meets its contract: what the definition asks of a security, in its order.
+-- `securities::sound_security` meets its contract: what the definition asks of a security, in its order.
 -- Assumes nothing.
 use Rattle.definitions.specs.Sound.{soundSecurity}
-use Rattle.state_soundness.proofs.sound.sound_security.Statement.{statement}
-use Rattle.state_soundness.proofs.sound.sound_security.Tie as tie
+use Rattle.securities.proofs.sound_security.Statement.{statement}
+use Rattle.securities.proofs.sound_security.Tie as tie
 
 returns : tie.Need-returns
 unfolding soundSecurity

@@ -5,18 +5,18 @@ use Prim.Native.Nat.{_-_}
 use native.Mathlib.Omega.{arith}
 use lib.Seq.{length-take-le}
 use borrow.Author.Needs.{needs}
-use Rattle.state_soundness.proofs.RowLaws.{Walked, walked-none, walked-next, walked-end}
+use Rattle.state_soundness.proofs.RowLaws.{SoundSoFar, sound-start, sound-next, sound-end}
 use Rattle.state_soundness.proofs.rows.marked_sound.Statement.{statement}
 use Rattle.state_soundness.proofs.rows.marked_sound.Tie as tie
 
 abbrev Inv-loop : tie.InvT-loop
-Inv-loop securities clock rows count ok₀ numbers₀ i₀ ok numbers i = Walked securities clock rows count ok numbers i
+Inv-loop securities clock rows count ok₀ numbers₀ i₀ ok numbers i = SoundSoFar securities clock rows count ok numbers i
 
 abbrev μ-loop : tie.MeasureT-loop
 μ-loop securities clock rows count ok₀ numbers₀ i₀ ok numbers i = count - i
 
 loop-holds : tie.Need-loop-holds Inv-loop μ-loop
-loop-holds c = walked-none _ _ _ _ _ refl
+loop-holds c = sound-start _ _ _ _ _ refl
 
 array-share-prefix-numbers : tie.Need-array-share-prefix-numbers Inv-loop μ-loop
 array-share-prefix-numbers c =
@@ -32,10 +32,10 @@ slice-aggregate-holds c =
 loop-again : tie.Need-loop-again Inv-loop μ-loop
 loop-again c =
     let test = c .before .before .before .before .before in
-    walked-next (test .loop-test .taken) (test .before .before .before .pre .1) (test .before .loop .inv) (c .before .before .before .row-of .ensures) (c .before .holds .ensures) (c .sound-marked .ensures)
+    sound-next (test .loop-test .taken) (test .before .before .before .pre .1) (test .before .loop .inv) (c .before .before .before .row-of .ensures) (c .before .holds .ensures) (c .sound-marked .ensures)
 
 returns : tie.Need-returns Inv-loop μ-loop
-returns c = walked-end (c .loop-test .left) (c .before .loop .inv)
+returns c = sound-end (c .loop-test .left) (c .before .loop .inv)
 
 pub marked-sound-spec : {M : Type 1} → statement M
 marked-sound-spec =
