@@ -80,7 +80,7 @@ bytesConditions b =
     ∷ (2, not (eqb (length b) (lengthOf (getD b 0 0))))
     ∷ []
 
--- the customer and the security that an event names, by its number; kind 2 names none and "reads all"
+-- the customer and the security that an event names: none, one by its number, or every one, for kind 2 "reads all"
 pub data Named : Type 0 where
   none : Named
   one : ℕ → Named

@@ -62,7 +62,7 @@ put-at rows n r e h =
     let more : deskRows - n ≡ suc (deskRows - (n + 1)) = omega arith in
     rw more (set-at rows freeRow (replicate (deskRows - (n + 1)) freeRow) r n e ∙ sym (append-snoc rows r (replicate (deskRows - (n + 1)) freeRow)))
 
--- A loop that walks the rows of d, changes each by f, and puts those that are kept on `closed`: i are walked, and n are put.
+-- A loop over the rows of d that changes each by f and puts those that are kept on `closed`: i are passed, and n are put.
 pub record Closing (f : Row → Row) (d closed : Desk) (n i : ℕ) : Type 0 where
   pub whole : length (d .rows) ≡ deskRows
   pub room : n ≤ i
@@ -101,17 +101,17 @@ module _ {f : Row → Row} {d : Desk} where
           record { whole = c .whole; room = omega (arith, c .room); put = rw next (c .put); desk = rw next (c .desk) }
 
     module _ (h : deskRows ≤ i) where
-      walked : take i (d .rows) ≡ d .rows
-      walked = take-all i (d .rows) (omega (arith, c .whole))
+      passed : take i (d .rows) ≡ d .rows
+      passed = take-all i (d .rows) (omega (arith, c .whole))
 
       put-whole : length (kept f (d .rows)) ≡ n
-      put-whole = rw walked at (c .put)
+      put-whole = rw passed at (c .put)
 
       closed-rows : closed ≡ withRows (edited f (d .rows)) d
       unfolding edited closeUp
       closed-rows =
           let size : deskRows - n ≡ length (map f (d .rows)) - count marked (map f (d .rows)) = omega (arith, length-map (d .rows) f, c .whole, length-keep marked (map f (d .rows)), put-whole) in
-          rw size at (rw walked at (c .desk))
+          rw size at (rw passed at (c .desk))
 
       pub closing-end : closed ≡ changed f d
       unfolding changed

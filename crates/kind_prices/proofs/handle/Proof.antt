@@ -1,4 +1,4 @@
--- `kind_prices::handle` meets its contract: the security is changed, and no condition after 8 is an event of prices.
+-- `kind_prices::handle` meets its contract: the security is changed, and no condition after 8 is one of prices.
 -- Assumes nothing.
 use mathlib.Core.Path.{refl}
 use borrow.Author.Needs.{needs}
