@@ -15,7 +15,7 @@ use Rattle.definitions.specs.Refusals.{earlyConditions}
 use Rattle.definitions.specs.Gate.{recordsSound}
 use Rattle.definitions.proofs.Tests.{or-parts}
 use Rattle.state.proofs.Fits.{fits-security, fits-desk}
-use Rattle.conditions.specs.First.{firstRefusal}
+use Rattle.kind_contract.specs.First.{firstRefusal}
 
 pub data First : List (ℕ × Bool) → ℕ → Type 0 where
   none : First [] 0

@@ -1,3 +1,1 @@
-pub mod Laws
-pub mod Exits
-pub mod Done
+mod Exits

@@ -3,7 +3,7 @@ ghost use mathlib.Core.Bool.{true, cond};
 ghost use mathlib.Core.Path.{_≡_};
 ghost use Rattle.definitions.specs.State.{stateFits};
 ghost use Rattle.definitions.specs.Refusals.{badCode};
-ghost use Rattle.conditions.specs.First.{firstRefusal};
+ghost use Rattle.kind_contract.specs.First.{firstRefusal};
 use definitions::Event;
 use definitions::Order;
 use definitions::codes::DMA;

@@ -18,8 +18,8 @@ use Rattle.definitions.specs.Events.{eventIn}
 use Rattle.definitions.specs.Gate.{Outcome, refused, done, resultOf, conditions, perform, refusedOr, outcome, made}
 use Rattle.definitions.proofs.Passed.{table, outcome-read}
 use Rattle.events.specs.Readings.{unreadBy, readEvent}
-use Rattle.conditions.specs.First.{firstRefusal, Ready, laterOutcome, eventOutcome}
-use Rattle.conditions.proofs.Laws.{by-parts}
+use Rattle.kind_contract.specs.First.{firstRefusal, Ready, laterOutcome, eventOutcome}
+use Rattle.kind_contract.proofs.Laws.{by-parts}
 use Rattle.gate.specs.Reading.{refusedBy}
 
 -- an answer and the words after it

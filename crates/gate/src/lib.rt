@@ -3,7 +3,7 @@ ghost use mathlib.Core.Bool.{true};
 ghost use mathlib.Core.Path.{_≡_};
 ghost use Rattle.definitions.specs.State.{stateFits};
 ghost use Rattle.definitions.specs.Gate.{resultOf, outcome, made};
-ghost use Rattle.conditions.specs.First.{eventOutcome};
+ghost use Rattle.kind_contract.specs.First.{eventOutcome};
 ghost use Rattle.gate.specs.Reading.{refusedBy};
 use definitions::Answer;
 use definitions::Event;

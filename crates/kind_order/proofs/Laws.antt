@@ -23,9 +23,9 @@ use Rattle.definitions.specs.Desks.{openOrInMinute, added, counterOf, countedAs
 use Rattle.definitions.specs.Rules.{View, verdictOf}
 use Rattle.definitions.specs.Refusals.{holdsNumber, numberTaken, deskFull}
 use Rattle.definitions.specs.Gate.{resultOf, viewAt, perform}
-use Rattle.conditions.specs.First.{laterRefusal, laterOutcome}
-use Rattle.conditions.proofs.Laws.{later-refused, later-done}
-use Rattle.conditions.proofs.Done.{Left}
+use Rattle.kind_contract.specs.First.{laterRefusal, laterOutcome}
+use Rattle.kind_contract.proofs.Laws.{later-refused, later-done}
+use Rattle.kind_contract.proofs.Done.{Left}
 
 -- counters and rows change apart
 added-counted : (v : Verdict) (clock : ℕ) (o : Order) (d : Desk) → added clock o (counted v d) ≡ counted v (added clock o d)

@@ -22,7 +22,7 @@ use Rattle.definitions.proofs.State.{Sized}
 use Rattle.definitions.proofs.HeaderWords as words
 use Rattle.definitions.proofs.Session.{Cleared, clears, DesksChanged, changes}
 use Rattle.state.proofs.Fits.{fits-header, fits-sized}
-use Rattle.conditions.proofs.Done.{Left}
+use Rattle.kind_contract.proofs.Done.{Left}
 
 -- what the loops require: the words are as many as the header says
 abbrev pub Long : List ℕ → Type 0

@@ -4,7 +4,7 @@ use mathlib.Core.Path.{_≡_, ap, sym, subst, _∙_}
 use borrow.Author.Needs.{needs}
 use Rattle.definitions.specs.declared.Event.{Event}
 use Rattle.definitions.specs.Gate.{resultOf}
-use Rattle.conditions.specs.First.{Ready, laterOutcome, eventOutcome}
+use Rattle.kind_contract.specs.First.{Ready, laterOutcome, eventOutcome}
 use Rattle.gate.proofs.Outcomes.{Left, event-refused, event-ready, event-later}
 use Rattle.gate.proofs.apply.Statement.{statement}
 use Rattle.gate.proofs.apply.Tie as tie

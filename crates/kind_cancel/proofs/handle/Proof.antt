@@ -9,9 +9,9 @@ use Rattle.definitions.specs.Lists.{firstMet}
 use Rattle.definitions.specs.State.{headerOf}
 use Rattle.definitions.specs.Desks.{cancelledRow, changed}
 use Rattle.definitions.specs.Gate.{perform}
-use Rattle.conditions.specs.First.{laterRefusal}
-use Rattle.conditions.proofs.Laws.{later-refused, header-fits, desk-fits}
-use Rattle.conditions.proofs.Done.{desk-done, row-open}
+use Rattle.kind_contract.specs.First.{laterRefusal}
+use Rattle.kind_contract.proofs.Laws.{later-refused, header-fits, desk-fits}
+use Rattle.kind_contract.proofs.Done.{desk-done, row-open}
 use Rattle.kind_cancel.proofs.handle.Statement.{statement}
 use Rattle.kind_cancel.proofs.handle.Tie as tie
 

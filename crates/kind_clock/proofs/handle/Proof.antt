@@ -9,8 +9,8 @@ use Rattle.definitions.specs.declared.Answer.the-variants as answer
 use Rattle.definitions.specs.Lists.{put}
 use Rattle.definitions.specs.State.{clockPlace}
 use Rattle.definitions.specs.Gate.{perform}
-use Rattle.conditions.proofs.Laws.{nothing-later, header-fits}
-use Rattle.conditions.proofs.Done.{words-done}
+use Rattle.kind_contract.proofs.Laws.{nothing-later, header-fits}
+use Rattle.kind_contract.proofs.Done.{words-done}
 use Rattle.kind_clock.proofs.handle.Statement.{statement}
 use Rattle.kind_clock.proofs.handle.Tie as tie
 

@@ -8,9 +8,9 @@ use Rattle.definitions.specs.declared.Answer.the-variants as answer
 use Rattle.definitions.specs.Lists.{firstMet}
 use Rattle.definitions.specs.Desks.{matchedRow, changed}
 use Rattle.definitions.specs.Gate.{perform}
-use Rattle.conditions.specs.First.{laterRefusal}
-use Rattle.conditions.proofs.Laws.{later-refused, desk-fits}
-use Rattle.conditions.proofs.Done.{desk-done, row-open, row-short}
+use Rattle.kind_contract.specs.First.{laterRefusal}
+use Rattle.kind_contract.proofs.Laws.{later-refused, desk-fits}
+use Rattle.kind_contract.proofs.Done.{desk-done, row-open, row-short}
 use Rattle.kind_match.proofs.handle.Statement.{statement}
 use Rattle.kind_match.proofs.handle.Tie as tie
 

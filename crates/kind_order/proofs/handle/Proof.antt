@@ -2,7 +2,7 @@
 -- Assumes nothing.
 use mathlib.Core.Path.{refl}
 use borrow.Author.Needs.{needs}
-use Rattle.conditions.proofs.Laws.{header-fits, security-fits, desk-fits}
+use Rattle.kind_contract.proofs.Laws.{header-fits, security-fits, desk-fits}
 use Rattle.kind_order.proofs.Laws.{order-9, order-counted, order-12, order-added}
 use Rattle.kind_order.proofs.handle.Statement.{statement}
 use Rattle.kind_order.proofs.handle.Tie as tie

@@ -4,7 +4,7 @@ use mathlib.Core.Path.{refl, _∙_}
 use native.Mathlib.Omega.{arith}
 use lib.ListN.{length-set}
 use borrow.Author.Needs.{needs}
-use Rattle.conditions.proofs.Laws.{later-done, nothing-later, header-fits}
+use Rattle.kind_contract.proofs.Laws.{later-done, nothing-later, header-fits}
 use Rattle.kind_session.proofs.Laws.{session-long, cleared-long, session-same, session-done}
 use Rattle.kind_session.proofs.handle.Statement.{statement}
 use Rattle.kind_session.proofs.handle.Tie as tie

@@ -17,7 +17,7 @@ use Rattle.definitions.specs.Gate.{refused, resultOf, recordsSound, viewOf, per
 use Rattle.definitions.proofs.Tests.{or-parts}
 use Rattle.definitions.proofs.Table.{Numbered, unmet, first-append, numbered-first}
 use Rattle.definitions.proofs.Passed.{table, numbered-table}
-use Rattle.conditions.specs.First.{eventOutcome, firstRefusal, Ready, laterRefusal, laterOutcome}
+use Rattle.kind_contract.specs.First.{eventOutcome, firstRefusal, Ready, laterRefusal, laterOutcome}
 use Rattle.state.proofs.Fits.{fits-header, fits-security, fits-desk}
 use lib.ListN.{length}
 

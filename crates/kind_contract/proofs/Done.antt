@@ -10,8 +10,8 @@ use Rattle.definitions.specs.declared.Answer.{Answer}
 use Rattle.definitions.specs.declared.Answer.the-variants as answer
 use Rattle.definitions.specs.State.{securityAt, deskAt, putSecurity, putDesk}
 use Rattle.definitions.specs.Gate.{done, resultOf, changeSecurity, changeDesk, perform}
-use Rattle.conditions.specs.First.{laterRefusal, laterOutcome}
-use Rattle.conditions.proofs.Laws.{later-done}
+use Rattle.kind_contract.specs.First.{laterRefusal, laterOutcome}
+use Rattle.kind_contract.proofs.Laws.{later-done}
 use mathlib.Core.Bool.{Bool}
 use Rattle.definitions.specs.Lists.{any}
 use Rattle.definitions.specs.Desks.{openWith}
