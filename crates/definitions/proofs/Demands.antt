@@ -1,18 +1,21 @@
 -- The three demands of paper 00 as theorems over the definitions of paper 01. Read this file first: each theorem stands under the sentence that it
--- proves. The definitions that it names are in crates/definitions/specs, but for two that stand beside their laws: `FoundFirst` in Refused.antt, and `Good`,
--- a well-formed state, in WellFormed.antt. That the code does what `outcome` says is the contract of `gate::handle`.
+-- proves. The definitions that it names are in crates/definitions/specs, but for those that stand beside their laws: `FoundFirst` in Refused.antt, `Good`,
+-- a well-formed state, in WellFormed.antt, `AppliesFirst` in Verdicts.antt and `Belongs` in Ownership.antt. That the code does what `outcome` says is the contract of `gate::handle`.
 -- Assumes nothing.
 use mathlib.Core.Bool.{Bool, true, not, false}
 use mathlib.Core.List.{List}
+use mathlib.Core.Logic.{_↔_}
 use mathlib.Core.Path.{_≡_, ap, sym, _∙_}
 use Prim.Native.Nat.{ℕ, _<_}
 use Rattle.definitions.specs.declared.Order.{Order}
 use Rattle.definitions.specs.declared.Event.{Event}
 use Rattle.definitions.specs.declared.Event.the-variants as event
+use Rattle.definitions.specs.declared.Verdict.{Verdict}
+use Rattle.definitions.specs.declared.Answer.{Answer}
 use Rattle.definitions.specs.declared.Answer.the-variants as answer
 use Rattle.definitions.specs.Lists.{all, keep}
 use Rattle.definitions.specs.State.{headerOf, sizesFit, fresh, putDesk, deskWords, stateFits}
-use Rattle.definitions.specs.Gate.{answerOf, wordsOf, recordsSound, conditions, verdictAt, orderedAt, perform, outcome, eventAnswer, eventWords, wordsAfter, answersTo}
+use Rattle.definitions.specs.Gate.{answerOf, wordsOf, recordsSound, conditions, viewAt, verdictAt, orderedAt, perform, outcome, eventAnswer, eventWords, wordsAfter, answersTo}
 use Rattle.definitions.specs.Lone.{Lone, loneFresh, loneAfter, loneAnswers, isFed, marketWords, customerWords}
 use Rattle.definitions.proofs.State as state
 use Rattle.definitions.proofs.WellFormed as wellFormed
@@ -20,6 +23,9 @@ use Rattle.definitions.proofs.WellFormed.{Good, fits}
 use Rattle.definitions.proofs.Fresh.{fresh-good, fresh-market, fresh-desk}
 use Rattle.definitions.proofs.Refused as refusals
 use Rattle.definitions.proofs.Refused.{FoundFirst}
+use Rattle.definitions.proofs.Verdicts.{AppliesFirst, both-ways}
+use Rattle.definitions.proofs.Ownership as ownership
+use Rattle.definitions.proofs.Ownership.{Belongs}
 use Rattle.definitions.proofs.Isolation.{loneOf}
 use Rattle.definitions.proofs.Histories.{good-after, same-answers, same-after}
 use Rattle.definitions.specs.Events.{eventIn}
@@ -44,6 +50,9 @@ condition-refuses w b n found some = refusals.refuses w b n (refusals.first-foun
 -- so that an event that is not refused meets no condition of its table
 pub unrefused-meets-none : (w b : List ℕ) → ((n : ℕ) → eventAnswer w b ≡ answer.Refused n → ⊥) → all (λ (c : ℕ × Bool). not (c .1)) (conditions w b) ≡ true
 unrefused-meets-none w b answered = refusals.none-met (conditions w b) (refusals.numbered-conditions w b) (refusals.unrefused w b answered)
+
+same-verdict : (x y : Verdict) → _≡_ {A = Answer} (answer.Verdict x) (answer.Verdict y) → x ≡ y
+same-verdict x y e = cc
 
 -- DEMAND 2, of the definitions: "From a fresh state, the verdict of every order not refused is the one that the exchange's 2011 screening standard, as
 -- condensed in document 01, gives for the events so far .. Rows and counters follow the same definition."
@@ -79,6 +88,20 @@ module _ (customers securities : ℕ) (fit : sizesFit customers securities ≡ t
       let w = wordsAfter (fresh customers securities) history in
       let does : outcome w b ≡ perform w (event.Order k o) = performs history b answered ∙ ap (perform w) e in
       record { verdict = ap answerOf does; words = ap (wordsOf w) does }
+
+  -- "rejected or warned where the standard says so, and not otherwise": an order that is not refused gets a verdict exactly where its rule applies and none above it
+  pub verdict-both-ways : (history : List (List ℕ)) (b : List ℕ) (k : ℕ) (o : Order) → eventIn b ≡ event.Order k o
+      → ((n : ℕ) → eventAnswer (wordsAfter (fresh customers securities) history) b ≡ answer.Refused n → ⊥)
+      → (x : Verdict) → (eventAnswer (wordsAfter (fresh customers securities) history) b ≡ answer.Verdict x) ↔ AppliesFirst (viewAt (wordsAfter (fresh customers securities) history) (o .security) k) o x
+  verdict-both-ways history b k o e answered x =
+      let given = judged history b k o e answered .verdict in
+      let ways = both-ways (viewAt (wordsAfter (fresh customers securities) history) (o .security) k) o x in
+      (λ a. ways .0 (same-verdict _ x (sym given ∙ a)), λ first. given ∙ ap answer.Verdict (ways .1 first))
+
+  -- "Kinds 5 to 7 belong to the customer they name; 1 to 4 .. are market events. An event that meets condition 2 or 3 below, or one with a customer of C or
+  -- more, belongs to nobody."
+  pub belongs : (b : List ℕ) → Belongs customers b
+  belongs b = ownership.belongs customers b
 
   -- DEMAND 3: for every history and every customer k, "these answers, rows, counters and words are exactly those of the lone run in document 01, which is
   -- fed these events and nothing of the others"

@@ -23,6 +23,9 @@ pub mod Histories
 -- refusals: the first condition met, and answers told from their numbers
 pub mod Refused
 pub mod Numbers
+-- to whom an event belongs, and the verdict both ways
+pub mod Ownership
+pub mod Verdicts
 -- the three demands
 pub mod Demands
 -- the paper's cases

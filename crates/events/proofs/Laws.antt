@@ -6,10 +6,11 @@ use mathlib.Core.Path.{_≡_, refl, ap, sym}
 use Prim.Native.Nat.{ℕ, zero, suc, _-_, _<_}
 use native.Mathlib.Nat.{eq-or-lt-of-le}
 use native.Mathlib.Omega.{arith}
-use lib.ListN.{length, getD, List·getD-eq-default}
+use lib.ListN.{length, getD}
 use borrow.Author.Tests.{eq-eqb, ne-eqb}
 use Rattle.definitions.specs.Lists.{firstMet}
-use Rattle.definitions.specs.Events.{matchOf, kinds, lengthOf, eventOf}
+use Rattle.definitions.specs.Events.{kinds, lengthOf, eventOf}
+use Rattle.definitions.proofs.Ownership.{past-kinds}
 use Rattle.events.specs.Readings.{readEvent}
 use Rattle.definitions.specs.declared.Event.{Event}
 use Rattle.definitions.specs.declared.Reading.the-variants.{Whole, Refused}
@@ -23,21 +24,17 @@ above : (n : ℕ) {k : ℕ} → 0 < k → NoneOf n k → n < k
 above zero some rest = some
 above (suc n) some rest = omega (arith, above n some (rest .0), rest .1)
 
-past : (k : ℕ) → length kinds < k → lengthOf k ≡ 0
-unfolding lengthOf
-past k h = rw (ne-eqb k 0 (λ e. omega arith)) (ap (λ (x : ℕ × (List ℕ → Event)). x .0) (List·getD-eq-default kinds (0, matchOf) {n = k - 1} (omega arith)))
-
 pub unknown : (k : ℕ) → NoneOf (length kinds) k → 0 ≡ lengthOf k
 unfolding lengthOf
 unknown zero rest = refl
-unknown (suc k) rest = sym (past (suc k) (above (length kinds) (omega arith) rest))
+unknown (suc k) rest = sym (past-kinds (suc k) (above (length kinds) (omega arith) rest))
 
 -- a kind that has a length and is none before the table's last is the last
 pub last-kind : (k : ℕ) → 0 < lengthOf k → NoneOf (length kinds - 1) k → k ≡ length kinds
 unfolding lengthOf
 last-kind zero has rest = omega arith
 last-kind (suc k) has rest =
-    ⊎-elim (λ e. sym e) (λ h. omega (arith, past (suc k) h)) (eq-or-lt-of-le (above (length kinds - 1) (omega arith) rest))
+    ⊎-elim (λ e. sym e) (λ h. omega (arith, past-kinds (suc k) h)) (eq-or-lt-of-le (above (length kinds - 1) (omega arith) rest))
 
 module _ (b : List ℕ) where
   pub empty : length b ≡ 0 → Refused 2 ≡ readEvent b

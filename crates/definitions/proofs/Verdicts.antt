@@ -1,0 +1,57 @@
+-- The verdict both ways: an order gets a verdict exactly where that verdict's rule applies and no rule above it does.
+-- Assumes nothing.
+use mathlib.Core.Bool.{Bool, true, false}
+use mathlib.Core.List.{[], _∷_}
+use mathlib.Core.Logic.{_↔_}
+use mathlib.Core.Path.{_≡_, refl, subst}
+use Rattle.definitions.specs.declared.Order.{Order}
+use Rattle.definitions.specs.declared.Verdict.{Verdict}
+use Rattle.definitions.specs.declared.Verdict.the-variants.{RejectS, RejectV, RejectQ, RejectW, RejectP, Warn30, Warn10, Accept}
+use Rattle.definitions.specs.Rules.{View, ruleS, ruleV, ruleQ, ruleW, ruleP, warn30, warn10, firstThat, verdictOf}
+
+-- "Verdicts, first that applies", by whether each of the seven rules applies
+abbrev pub First : (s v q w p a t : Bool) → Verdict → Type 0
+First s v q w p a t RejectS = s ≡ true
+First s v q w p a t RejectV = (s ≡ false) × (v ≡ true)
+First s v q w p a t RejectQ = (s ≡ false) × (v ≡ false) × (q ≡ true)
+First s v q w p a t RejectW = (s ≡ false) × (v ≡ false) × (q ≡ false) × (w ≡ true)
+First s v q w p a t RejectP = (s ≡ false) × (v ≡ false) × (q ≡ false) × (w ≡ false) × (p ≡ true)
+First s v q w p a t Warn30 = (s ≡ false) × (v ≡ false) × (q ≡ false) × (w ≡ false) × (p ≡ false) × (a ≡ true)
+First s v q w p a t Warn10 = (s ≡ false) × (v ≡ false) × (q ≡ false) × (w ≡ false) × (p ≡ false) × (a ≡ false) × (t ≡ true)
+First s v q w p a t Accept = (s ≡ false) × (v ≡ false) × (q ≡ false) × (w ≡ false) × (p ≡ false) × (a ≡ false) × (t ≡ false)
+
+abbrev pub AppliesFirst : View → Order → Verdict → Type 0
+AppliesFirst v o = First (ruleS (v .market) o) (ruleV (v .market) o) (ruleQ (v .market) o) (ruleW v o) (ruleP v o) (warn30 (v .market) o) (warn10 (v .market) o)
+
+abbrev decided : (s v q w p a t : Bool) → Verdict
+decided s v q w p a t =
+    firstThat ((s, RejectS) ∷ (v, RejectV) ∷ (q, RejectQ) ∷ (w, RejectW) ∷ (p, RejectP) ∷ (a, Warn30) ∷ (t, Warn10) ∷ [])
+
+-- what is decided applies first
+applies : (s v q w p a t : Bool) → First s v q w p a t (decided s v q w p a t)
+applies true v q w p a t = refl
+applies false true q w p a t = (refl, refl)
+applies false false true w p a t = (refl, refl, refl)
+applies false false false true p a t = (refl, refl, refl, refl)
+applies false false false false true a t = (refl, refl, refl, refl, refl)
+applies false false false false false true t = (refl, refl, refl, refl, refl, refl)
+applies false false false false false false true = (refl, refl, refl, refl, refl, refl, refl)
+applies false false false false false false false = (refl, refl, refl, refl, refl, refl, refl)
+
+-- and what applies first is decided
+is-decided : (s v q w p a t : Bool) (x : Verdict) → First s v q w p a t x → decided s v q w p a t ≡ x
+is-decided s v q w p a t RejectS h = rw h
+is-decided s v q w p a t RejectV h = rw (h .0, h .1)
+is-decided s v q w p a t RejectQ h = rw (h .0, h .1, h .2)
+is-decided s v q w p a t RejectW h = rw (h .0, h .1, h .2, h .3)
+is-decided s v q w p a t RejectP h = rw (h .0, h .1, h .2, h .3, h .4)
+is-decided s v q w p a t Warn30 h = rw (h .0, h .1, h .2, h .3, h .4, h .5)
+is-decided s v q w p a t Warn10 h = rw (h .0, h .1, h .2, h .3, h .4, h .5, h .6)
+is-decided s v q w p a t Accept h = rw (h .0, h .1, h .2, h .3, h .4, h .5, h .6)
+
+pub both-ways : (v : View) (o : Order) (x : Verdict) → (verdictOf v o ≡ x) ↔ AppliesFirst v o x
+unfolding verdictOf
+both-ways v o x = (
+  λ e. subst (AppliesFirst v o) e (applies (ruleS (v .market) o) (ruleV (v .market) o) (ruleQ (v .market) o) (ruleW v o) (ruleP v o) (warn30 (v .market) o) (warn10 (v .market) o)),
+  is-decided (ruleS (v .market) o) (ruleV (v .market) o) (ruleQ (v .market) o) (ruleW v o) (ruleP v o) (warn30 (v .market) o) (warn10 (v .market) o) x,
+)
