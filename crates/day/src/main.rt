@@ -1,6 +1,9 @@
 // Paper 01, "The day program": events on standard input, a listing on standard output, over 8 customers and 16 securities.
+ghost use mathlib.Core.Path.{_≡_};
 ghost use Prim.Native.Nat.{_≤_};
 ghost use lib.ListN.{length};
+ghost use Rattle.definitions.specs.Gate.{wordsAfter};
+ghost use Rattle.definitions.specs.Walk.{split};
 ghost use Rattle.definitions.specs.Answers.{verdictText, refusedText, answerText};
 ghost use Rattle.day.specs.Text.{Opens};
 use definitions::Answer;
@@ -32,7 +35,12 @@ fn main() {
     list(&mut words, &input[..length]);
 }
 
-fn list(words: &mut [u32], bytes: &[u8]) {
+// The words are those that the events leave, one after another. At most as many events as bytes: an event takes at least one, and what is no whole
+// event takes all that is left, so that none follows the first that is refused with 2 or 3.
+fn list(words: &mut [u32], bytes: &[u8])
+    ensures { λ _.
+        ⌜ now (words .exit) ≡ wordsAfter (now (words .entry)) (split (length (now (bytes .entry))) (now (bytes .entry))) ⌝ }
+{
     let mut at = 0;
     let mut index = 0;
     while at < bytes.len() {

@@ -3,22 +3,21 @@
 use mathlib.Core.Bool.{Bool, true, false, cond}
 use mathlib.Core.List.{List, [], _∷_, _++_, map, append-assoc, append-nil}
 use mathlib.Core.Path.{_≡_, refl, ap, ap₂, sym, subst, _∙_}
-use Prim.Native.Nat.{ℕ, zero, suc, _+_, _-_, _≤_, _<_, min}
+use Prim.Native.Nat.{ℕ, suc, _+_, _-_, _≤_, _<_, min}
 use native.Mathlib.Nat.{add-sub-cancel-left}
 use native.Mathlib.Numerals.{add-one}
 use native.Mathlib.Omega.{arith}
 use lib.ListN.{length, getD, take, drop, set, drop-of-length-le, length-take, length-drop, length-set, take-append-drop}
 use lib.Seq.{take-all, drop-length, drop-drop, take-suc-set, drop-set-lt, getD-take, take-append-seam, drop-append-seam, take-at}
-use borrow.Author.Tests.{ne-eqb}
 use Rattle.definitions.specs.Lists.{keep}
 use Rattle.definitions.specs.State.{sizesFit, fresh}
 use Rattle.definitions.specs.Gate.{eventWords, eventAnswer, wordsAfter, answersTo}
 use Rattle.definitions.specs.Lone.{isFed, marketWords, customerWords}
-use Rattle.definitions.specs.Walk.{taken, split}
+use Rattle.definitions.specs.Walk.{split}
 use Rattle.definitions.specs.Answers.{answerNumber}
 use Rattle.definitions.proofs.Lists.{drop-next}
 use Rattle.definitions.proofs.Demands.{isolated, alike}
-use Rattle.reader.proofs.Laws.{EventAt}
+use Rattle.reader.proofs.Laws.{EventAt, split-next}
 use Rattle.histories.specs.Ran.{picked, Ran, cut, Ends, Alone}
 
 -- every event is answered
@@ -28,26 +27,11 @@ every b = true
 abbrev pub numbers : List ℕ → List (List ℕ) → List ℕ
 numbers w bs = map answerNumber (answersTo every w bs)
 
-pub split-none : (n : ℕ) (b : List ℕ) (at : ℕ) → length b ≤ at → split n (drop at b) ≡ []
-unfolding split
-split-none zero b at h = refl
-split-none (suc n) b at h = rw (drop-of-length-le b h)
-
 pub none-left : (most count : ℕ) (b : List ℕ) → most ≡ count → split (most - count) b ≡ []
 unfolding split
 none-left most count b e =
     let nothing : most - count ≡ 0 = omega arith in
     ap (λ (n : ℕ). split n b) nothing
-
--- the event at a place, and those after it
-pub split-next : (n : ℕ) (b : List ℕ) (at end : ℕ) → EventAt b at end → split (suc n) (drop at b) ≡ take (end - at) (drop at b) ∷ split n (drop end b)
-unfolding split
-split-next n b at end here =
-    let left : length (drop at b) ≡ length b - at = length-drop at b in
-    let some : length (drop at b) ≡ 0 → ⊥ = λ e. omega (arith, here .some) in
-    let long : taken (drop at b) ≡ end - at = omega (arith, here .ends) in
-    let past : at + (end - at) ≡ end = omega (arith, here .grows) in
-    rw (ne-eqb (length (drop at b)) 0 some, long, drop-drop (end - at) at b, past)
 
 -- the numbers written to the events that a test picks are those of the answers to them
 picked-numbers : (p : List ℕ → Bool) (w : List ℕ) (bs : List (List ℕ)) → picked p bs (numbers w bs) ≡ map answerNumber (answersTo p w bs)

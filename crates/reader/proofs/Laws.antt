@@ -1,17 +1,17 @@
 -- What stands at a position of lent bytes: one law for each exit of `found_at`, and what a loop over the events learns of what is found.
 -- Assumes nothing.
 use mathlib.Core.Bool.{Bool, true, false, cond, _||_}
-use mathlib.Core.List.{List}
+use mathlib.Core.List.{List, [], _∷_}
 use mathlib.Core.Path.{_≡_, refl}
-use Prim.Native.Nat.{ℕ, _+_, _-_, _≤_, _<_}
+use Prim.Native.Nat.{ℕ, zero, suc, _+_, _-_, _≤_, _<_}
 use native.Mathlib.Nat.{add-zero}
 use native.Mathlib.Omega.{arith}
 use lib.Dec.{ltb, eqb}
-use lib.ListN.{length, getD, drop, length-drop}
-use lib.Seq.{getD-drop}
+use lib.ListN.{length, getD, take, drop, length-drop, drop-of-length-le}
+use lib.Seq.{getD-drop, drop-drop}
 use borrow.Author.Tests.{ltb-false, eqb-false, lt-ltb, le-ltb, le-leb, lt-leb, eq-eqb, ne-eqb}
 use Rattle.definitions.specs.Events.{lengthOf}
-use Rattle.definitions.specs.Walk.{taken}
+use Rattle.definitions.specs.Walk.{taken, split}
 use Rattle.reader.specs.declared.Found.the-variants.{Event, End}
 use Rattle.reader.specs.Places.{foundAt}
 
@@ -75,3 +75,19 @@ module _ (b : List ℕ) (at : ℕ) where
   end-at e =
       let more : at < length b → ⊥ = λ h. let z : _≡_ {A = ℕ} 0 1 = cc (some-event b at h) in omega arith in
       omega arith
+
+-- no event is left
+pub split-none : (n : ℕ) (b : List ℕ) (at : ℕ) → length b ≤ at → split n (drop at b) ≡ []
+unfolding split
+split-none zero b at h = refl
+split-none (suc n) b at h = rw (drop-of-length-le b h)
+
+-- the event at a place, and those after it
+pub split-next : (n : ℕ) (b : List ℕ) (at end : ℕ) → EventAt b at end → split (suc n) (drop at b) ≡ take (end - at) (drop at b) ∷ split n (drop end b)
+unfolding split
+split-next n b at end here =
+    let left : length (drop at b) ≡ length b - at = length-drop at b in
+    let some : length (drop at b) ≡ 0 → ⊥ = λ e. omega (arith, here .some) in
+    let long : taken (drop at b) ≡ end - at = omega (arith, here .ends) in
+    let past : at + (end - at) ≡ end = omega (arith, here .grows) in
+    rw (ne-eqb (length (drop at b)) 0 some, long, drop-drop (end - at) at b, past)

@@ -1,17 +1,19 @@
--- `day::list` is safe and ends: the position grows with each event and stays within the bytes, and the index is at most the position.
+-- `day::list` meets its contract: after each turn, what is done and what is left make the whole. It ends: the position grows with each event.
 -- Assumes nothing.
-use mathlib.Core.Path.{_≡_, refl, sym, _∙_}
-use Prim.Native.Nat.{_-_, _≤_}
+use mathlib.Core.Path.{ap, sym, _∙_}
+use Prim.Native.Nat.{_-_}
 use native.Mathlib.Nat.{le-of-lt}
 use native.Mathlib.Omega.{arith}
 use lib.ListN.{length}
 use borrow.Author.Needs.{needs}
-use Rattle.reader.proofs.Laws.{EventAt, event-at}
+use Rattle.gate.proofs.Outcomes.{Left}
+use Rattle.reader.proofs.Laws.{EventAt, event-at, end-at}
+use Rattle.day.proofs.Listed.{SoFar, begin, turn, finish}
 use Rattle.day.proofs.list.Statement.{statement}
 use Rattle.day.proofs.list.Tie as tie
 
 abbrev Inv-loop : tie.InvT-loop
-Inv-loop words₀ bytes at₀ index₀ words at index = (at ≤ length bytes) × (index ≤ at) × (length words ≡ length words₀)
+Inv-loop words₀ bytes at₀ index₀ words at index = SoFar words₀ bytes words at index
 
 abbrev μ-loop : tie.MeasureT-loop
 μ-loop words₀ bytes at₀ index₀ words at index = length bytes - at
@@ -21,7 +23,7 @@ here : (c : tie.After-found Inv-loop μ-loop) → EventAt (c .before .before .be
 here c = event-at _ _ _ (sym (c .before .before .next-event .ensures) ∙ c .found .given .1)
 
 loop-holds : tie.Need-loop-holds Inv-loop μ-loop
-loop-holds c = (omega arith, omega arith, refl)
+loop-holds c = begin _ _
 
 next-event-requires : tie.Need-next-event-requires Inv-loop μ-loop
 next-event-requires c κs = search needs
@@ -33,10 +35,11 @@ enum-told : tie.Need-enum-told Inv-loop μ-loop
 enum-told c = search needs
 
 same-length : tie.Need-same-length Inv-loop μ-loop
-same-length c = c .before .before .before .before .loop .inv .2
+same-length c = c .before .before .before .before .loop .inv .kept
 
 returns : tie.Need-returns Inv-loop μ-loop
-returns c = search needs
+returns c =
+    finish _ _ _ _ _ (c .before .before .before .before .loop .inv) (end-at _ _ (sym (c .before .before .next-event .ensures) ∙ c .enum-told .given .1))
 
 sub-handle : tie.Need-sub-handle Inv-loop μ-loop
 sub-handle c = omega (arith, here (c .before .before) .grows)
@@ -57,21 +60,22 @@ line-requires : tie.Need-line-requires Inv-loop μ-loop
 line-requires c κs = search needs
 
 add-index : tie.Need-add-index Inv-loop μ-loop
-add-index c = omega (arith, here (c .before .before .before .before .before .before .before .before) .some, c .before .before .before .before .before .before .before .before .before .before .before .before .loop .inv .1, c .before .before .before .before .before .before .before .before .before .before .before .before .before .before .before .good .1)
+add-index c = omega (arith, here (c .before .before .before .before .before .before .before .before) .some, c .before .before .before .before .before .before .before .before .before .before .before .before .loop .inv .counted, c .before .before .before .before .before .before .before .before .before .before .before .before .before .before .before .good .1)
 
 loop-less : tie.Need-loop-less Inv-loop μ-loop
 loop-less c = let h = here (c .before .before .before .before .before .before .before .before) in omega (arith, h .grows, h .within)
 
 loop-again : tie.Need-loop-again Inv-loop μ-loop
 loop-again c =
-    let h = here (c .before .before .before .before .before .before .before .before) in
-    (h .within, omega (arith, h .grows, c .before .before .before .before .before .before .before .before .before .before .before .before .loop .inv .1), c .before .before .before .before .handle .kept .0 ∙ c .before .before .before .before .before .before .before .before .before .before .before .before .loop .inv .2)
+    let handled = c .before .before .before .before in
+    turn _ _ _ _ _ (handled .before .before .before .before .before .before .before .before .loop .inv) _ (here (handled .before .before .before .before)) (handled .handle .kept .0)
+    (ap (λ (x : Left). x .1) (handled .handle .ensures))
 
 same-length-2 : tie.Need-same-length-2 Inv-loop μ-loop
-same-length-2 c = c .before .loop .inv .2
+same-length-2 c = c .before .loop .inv .kept
 
 returns-2 : tie.Need-returns-2 Inv-loop μ-loop
-returns-2 c = search needs
+returns-2 c = finish _ _ _ _ _ (c .before .loop .inv) (omega (arith, c .loop-test .left))
 
 pub list-spec : {M : Type 1} → statement M
 list-spec =

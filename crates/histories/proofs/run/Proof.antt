@@ -8,8 +8,8 @@ use lib.ListN.{length}
 use borrow.Author.Needs.{needs}
 use Rattle.definitions.specs.Answers.{answerNumber}
 use Rattle.gate.proofs.Outcomes.{Left}
-use Rattle.reader.proofs.Laws.{EventAt, event-at, end-at}
-use Rattle.histories.proofs.Histories.{Walks, walks-none, walks-next, finish, split-none, none-left}
+use Rattle.reader.proofs.Laws.{EventAt, event-at, end-at, split-none}
+use Rattle.histories.proofs.Histories.{Walks, walks-none, walks-next, finish, none-left}
 use Rattle.histories.proofs.run.Statement.{statement}
 use Rattle.histories.proofs.run.Tie as tie
 
