@@ -39,3 +39,10 @@ module _ (w₀ b w : List ℕ) (at index : ℕ) (so-far : SoFar w₀ b w at inde
   pub finish : length b ≤ at → w ≡ wordsAfter w₀ (split (length b) b)
   unfolding wordsAfter
   finish h = ap (wordsAfter w) (sym (split-none (length b - index) b at h)) ∙ so-far .words
+
+-- where the loop stands
+pub record Turn (w₀ b : List ℕ) : Type 0 where
+  pub words : List ℕ
+  pub at : ℕ
+  pub index : ℕ
+  pub so-far : SoFar w₀ b words at index

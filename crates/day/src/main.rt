@@ -1,8 +1,8 @@
 // Paper 01, "The day program": events on standard input, a listing on standard output, over 8 customers and 16 securities.
 ghost use mathlib.Core.Path.{_≡_};
-ghost use Prim.Native.Nat.{_≤_};
-ghost use lib.ListN.{length};
-ghost use Rattle.definitions.specs.Gate.{wordsAfter};
+ghost use Prim.Native.Nat.{_-_, _≤_, _<_};
+ghost use lib.ListN.{length, take, drop};
+ghost use Rattle.definitions.specs.Gate.{eventWords, wordsAfter};
 ghost use Rattle.definitions.specs.Walk.{split};
 ghost use Rattle.definitions.specs.Answers.{verdictText, refusedText, answerText};
 ghost use Rattle.day.specs.Text.{Opens};
@@ -41,18 +41,27 @@ fn list(words: &mut [u32], bytes: &[u8])
     ensures { λ _.
         ⌜ now (words .exit) ≡ wordsAfter (now (words .entry)) (split (length (now (bytes .entry))) (now (bytes .entry))) ⌝ }
 {
-    let mut at = 0;
+    let mut r = reader::reader_at(bytes, 0);
     let mut index = 0;
-    while at < bytes.len() {
-        let found = reader::next_event(bytes, at);
+    loop {
+        let found = reader::next(r);
         let Found::Event(end) = found else {
             return;
         };
-        let answer = gate::handle(words, &bytes[at..end]);
-        line(index, bytes[at], answer);
-        at = end;
+        event(words, r.bytes, r.at, end, index);
+        r = reader::moved(r, end);
         index += 1;
     }
+}
+
+// Hands the event between two positions to the gate, and writes its line.
+fn event(words: &mut [u32], bytes: &[u8], at: usize, end: usize, index: u64)
+    requires { ⌜ (at < end) × (end ≤ length (now bytes)) ⌝ }
+    ensures { λ _.
+        ⌜ now (words .exit) ≡ eventWords (now (words .entry)) (take (end - at) (drop at (now (bytes .entry)))) ⌝ }
+{
+    let answer = gate::handle(words, &bytes[at..end]);
+    line(index, bytes[at], answer);
 }
 
 // An event's index from 0, its kind byte and its answer.

@@ -43,6 +43,13 @@ pub fn next<'a>(r: EventReader<'a>) -> Found
     found_at(r.bytes, r.at)
 }
 
+// The reader at another position of the same bytes.
+pub fn moved<'a>(r: EventReader<'a>, at: usize) -> EventReader<'a>
+    ensures { λ q. ⌜ (q .bytes ≡ r .entry .bytes) × (q .at ≡ at) ⌝ }
+{
+    EventReader { bytes: r.bytes, at }
+}
+
 // The parameters are plain, so that a caller needs no walk by hand.
 pub fn next_event(bytes: &[u8], at: usize) -> Found
     ensures { λ s. ⌜ s ≡ foundAt (now (bytes .entry)) at ⌝ }
