@@ -35,8 +35,8 @@ fn main() {
     list(&mut words, &input[..length]);
 }
 
-// The words are those that the events leave, one after another. At most as many events as bytes: an event takes at least one, and what is no whole
-// event takes all that is left, so that none follows the first that is refused with 2 or 3.
+// "walks the lent bytes with one event reader": a local holds it over the loop. The words are those that the events leave, one after another. As many
+// events as there are bytes are all of them (`split-all`), and none follows one that is refused with 2 or 3 (`whole-before`).
 fn list(words: &mut [u32], bytes: &[u8])
     ensures { λ _.
         ⌜ now (words .exit) ≡ wordsAfter (now (words .entry)) (split (length (now (bytes .entry))) (now (bytes .entry))) ⌝ }

@@ -17,7 +17,7 @@ use Rattle.definitions.specs.Walk.{split}
 use Rattle.definitions.specs.Answers.{answerNumber}
 use Rattle.definitions.proofs.Lists.{drop-next}
 use Rattle.definitions.proofs.Demands.{isolated, alike}
-use Rattle.reader.proofs.Laws.{EventAt, split-next}
+use Rattle.reader.proofs.Laws.{EventAt, split-next, joined}
 use Rattle.histories.specs.Ran.{picked, Ran, cut, Ends, Alone}
 
 -- every event is answered
@@ -198,10 +198,6 @@ cuts-end ns b most count h =
     ap (λ (ms : List ℕ). cut ms b) (drop-of-length-le (take most ns) past)
 
 -- every history can be handed in by its bytes and lengths
-abbrev pub joined : List (List ℕ) → List ℕ
-joined [] = []
-joined (e ∷ es) = e ++ joined es
-
 pub every-history : (history : List (List ℕ)) → cut (map length history) (joined history) ≡ history
 unfolding cut
 every-history [] = refl

@@ -1,16 +1,17 @@
 -- What stands at a position of lent bytes: one law for each exit of `found_at`, and what a loop over the events learns of what is found.
 -- Assumes nothing.
 use mathlib.Core.Bool.{Bool, true, false, cond, _||_}
-use mathlib.Core.List.{List, [], _∷_}
+use mathlib.Core.List.{List, [], _∷_, _++_}
 use mathlib.Core.Path.{_≡_, refl}
 use Prim.Native.Nat.{ℕ, zero, suc, _+_, _-_, _≤_, _<_}
 use native.Mathlib.Nat.{add-zero}
 use native.Mathlib.Omega.{arith}
 use lib.Dec.{ltb, eqb}
-use lib.ListN.{length, getD, take, drop, length-drop, drop-of-length-le}
-use lib.Seq.{getD-drop, drop-drop}
+use lib.ListN.{length, getD, take, drop, length-drop, drop-of-length-le, take-append-drop}
+use lib.Seq.{getD-drop, getD-take, drop-drop, length-take-le}
 use borrow.Author.Tests.{ltb-false, eqb-false, lt-ltb, le-ltb, le-leb, lt-leb, eq-eqb, ne-eqb}
-use Rattle.definitions.specs.Events.{lengthOf}
+use Rattle.definitions.specs.Lists.{firstMet}
+use Rattle.definitions.specs.Events.{lengthOf, bytesConditions}
 use Rattle.definitions.specs.Walk.{taken, split}
 use Rattle.reader.specs.declared.Found.the-variants.{Event, End}
 use Rattle.reader.specs.Places.{foundAt}
@@ -91,3 +92,29 @@ split-next n b at end here =
     let long : taken (drop at b) ≡ end - at = omega (arith, here .ends) in
     let past : at + (end - at) ≡ end = omega (arith, here .grows) in
     rw (ne-eqb (length (drop at b)) 0 some, long, drop-drop (end - at) at b, past)
+
+abbrev pub joined : List (List ℕ) → List ℕ
+joined [] = []
+joined (e ∷ es) = e ++ joined es
+
+-- the events are all of the bytes, where there may be as many events as bytes
+pub split-all : (n : ℕ) (b : List ℕ) → length b ≤ n → joined (split n b) ≡ b
+unfolding split
+split-all zero [] h = refl
+split-all zero (x ∷ b) h = absurd (omega arith)
+split-all (suc n) [] h = refl
+split-all (suc n) (x ∷ b) h =
+    let least : 0 < taken (x ∷ b) = rw (taken-at (x ∷ b) 0 refl) (part (length (x ∷ b) - 0) (lengthOf x) (omega arith) .least) in
+    let fewer : length (drop (taken (x ∷ b)) (x ∷ b)) ≤ n = omega (arith, length-drop (taken (x ∷ b)) (x ∷ b)) in
+    rw (ne-eqb (length (x ∷ b)) 0 (λ e. omega arith), split-all n (drop (taken (x ∷ b)) (x ∷ b)) fewer) (take-append-drop (taken (x ∷ b)) (x ∷ b))
+
+-- "`refused 2` or `refused 3` ends the listing": an event that others follow is whole
+pub whole-before : (b : List ℕ) → taken b < length b → firstMet (bytesConditions (take (taken b) b)) ≡ 0
+unfolding taken firstMet
+whole-before b = go (lengthOf (getD b 0 0)) refl (eqb (lengthOf (getD b 0 0)) 0) refl (ltb (length b) (lengthOf (getD b 0 0))) refl where
+  go : (n : ℕ) → n ≡ lengthOf (getD b 0 0) → (unknown : Bool) → eqb n 0 ≡ unknown → (short : Bool) → ltb (length b) n ≡ short
+      → cond (unknown || short) (length b) n < length b → firstMet (bytesConditions (take (cond (unknown || short) (length b) n) b)) ≡ 0
+  go n of-kind true z short s h = absurd (omega arith)
+  go n of-kind false z true s h = absurd (omega arith)
+  go n of-kind false z false s h =
+      rw (length-take-le n b (omega arith), getD-take n b 0 0 (omega (arith, eqb-false n 0 z)), ← of-kind, z, eq-eqb n n refl) refl

@@ -2,7 +2,7 @@
 -- All that the proof knows of `reader_at`, `next`, `moved` and `event` is that each meets its contract. What the loop has done is said in `Listed.antt`.
 -- Assumes nothing.
 use mathlib.Core.Path.{_≡_, refl, ap, sym, subst, _∙_}
-use mathlib.Core.WellFounded.{WellFounded, InvImage·wf}
+use mathlib.Core.WellFounded.{InvImage·wf}
 use Prim.Native.Nat.{ℕ, _+_, _-_, _<_, _≤_, _^_}
 use native.Mathlib.Omega.{arith}
 use mathlib.Core.List.{List, [], _∷_}
@@ -17,13 +17,12 @@ use base.Logic.{SProp, ent, sep, emp, via, fst∗, snd∗, exE, id⊢}
 use base.Fml.{Lft, Share, GName, Fml, ftrue, flft, fat, froom, fdies}
 use prog.Memory.{Memory}
 use prog.Routine.{Routine}
-use prog.Wp.{Heap, Env, Calls, Loops, Wp, WpFn, Tables, afterSeq, afterBlock, afterTurn, atReturn}
+use prog.Wp.{Heap, Env, Wp, WpFn, Tables, afterSeq, afterBlock, afterTurn, atReturn}
 use ghost.Atoms.{Atoms, sem}
-use contract.Lifetimes.{Lfts}
 use contract.Monad.{Fun, fact}
 use contract.Running.{givenOf, tables, tablesOf}
 use types.Kit as Kit
-use types.Kit.{Given, Item, Sq, runs, anyQ, post, ‵, raw, _⊛_, ⋆, some, later, _$_, _∵_, !, qed, by, move, drop, keep, rewrite, use1, use2, use3, split, split3, join, group, pick, fsplit, fjoin, feqL, feqI, suffices, frame, await, done}
+use types.Kit.{Given, Item, Sq, runs, anyQ, post, ‵, raw, _⊛_, ⋆, some, later, _$_, _∵_, !, qed, by, move, drop, rewrite, use1, use2, use3, split, split3, join, group, pick, fsplit, fjoin, feqL, feqI, suffices, frame, await, done}
 use types.Part.{whole, sub, look-in, agg}
 use types.Match.{vrt, in-variant, look-tag, by-variants}
 use types.Run.{look, init, store, forget, stop, fld, hop, from, load, lit, unit-lit, of-opd, addr, bin, and-then, no-more, assigns, assigns-last, land, first, blocks, returns-within, loops, Below, again, exec, enter, alloc1, alloc0, params1, pass1, pass0, free1, free0}
@@ -72,7 +71,7 @@ use Rattle.reader.proofs.moved.Symbol as moved-def
 use Rattle.reader.proofs.moved.Symbol.{name as #reader·moved}
 use Rattle.reader.proofs.moved.Met as moved-thm
 use Rattle.day.proofs.Again.{LentAgain, lends-again, comes-back}
-use Rattle.day.proofs.Listed.{SoFar, Turn, begin, turn, finish}
+use Rattle.day.proofs.Listed.{Turn, begin, turn, finish}
 use Rattle.day.proofs.event as event
 use Rattle.day.proofs.event.Symbol as event-def
 use Rattle.day.proofs.event.Symbol.{name as #day·event}
@@ -98,12 +97,6 @@ after (switch c arms) = skip
 after (exit n) = skip
 after return = skip
 after (call f xs d) = skip
-
-no-tag : _≡_ {A = ℕ} 0 1 → ⊥
-no-tag e = omega arith
-
-no-tag′ : _≡_ {A = ℕ} 1 0 → ⊥
-no-tag′ e = omega arith
 
 module _ {M : Type 1} (𝓤 : URA M) (H : Heap 𝓤) (A : Atoms 𝓤) (mem : Memory → SProp 𝓤) (run : Routine → Fun 𝓤) where
   -- the contracts that the proof cites
@@ -263,31 +256,41 @@ module _ {M : Type 1} (𝓤 : URA M) (H : Heap 𝓤) (A : Atoms 𝓤) (W : Given
     abbrev bytesTy : Ty
     bytesTy = sliceTy (tyRef (named 1) imm (tyInt w8))
 
+    abbrev wordTy : Ty
+    wordTy = tyRef erased mut (tyInt w32)
+
     abbrev lentTy : Ty
-    lentTy = sliceTy (tyRef erased mut (tyInt w32))
+    lentTy = sliceTy wordTy
 
     abbrev readTy : Ty
     readTy = sliceTy (tyRef erased imm (tyInt w8))
 
+    abbrev readerTy : Ty
+    readerTy = T′.mir erased
+
+    -- a local, before what is stored and after
+    abbrev empty : Ty → ℕ → List (Item 𝓤) → List (Item 𝓤)
+    empty τ l Γ = ‵ (froom τ l 0) ∷ ‵ (fdies τ l) ∷ Γ
+
+    abbrev full : Ty → ℕ → Val → List (Item 𝓤) → List (Item 𝓤)
+    full τ l w Γ = ‵ (fat fullShare τ l 0 w) ∷ ‵ (fdies τ l) ∷ Γ
+
     module _ (l₀ l₁ l₂ l₃ l₄ l₅ l₆ l₇ l₈ l₉ l₁₀ l₁₁ l₁₂ l₁₃ : ℕ) where
       abbrev E : Env 𝓤 H
-      E = (tyUnit, l₀) ∷ (wordsTy, l₁) ∷ (bytesTy, l₂) ∷ (T′.mir erased, l₃) ∷ (tyInt w64, l₄) ∷ (S′.mir, l₅) ∷ (tyInt w64, l₆) ∷ (T′.mir erased, l₇) ∷ (tyUnit, l₈) ∷ (tyRef erased mut (tyInt w32), l₉) ∷ (lentTy, l₁₀) ∷ (readTy, l₁₁) ∷ (tyInt w64, l₁₂) ∷ (T′.mir erased, l₁₃) ∷ []
+      E = (tyUnit, l₀) ∷ (wordsTy, l₁) ∷ (bytesTy, l₂) ∷ (readerTy, l₃) ∷ (tyInt w64, l₄) ∷ (S′.mir, l₅) ∷ (tyInt w64, l₆) ∷ (readerTy, l₇) ∷ (tyUnit, l₈) ∷ (wordTy, l₉) ∷ (lentTy, l₁₀) ∷ (readTy, l₁₁) ∷ (tyInt w64, l₁₂) ∷ (readerTy, l₁₃) ∷ []
 
       -- what a turn has: what it owns, and its locals, the last first
-      abbrev Locals : Turn w₀ (now s) → Item 𝓤 → Item 𝓤 → List (Item 𝓤)
-      Locals t i₅ i₇ = ‵ (Words (t .words) (length (t .words))) ∷ ‵ Bytes ∷ ‵ (flft κ q) ∷ ‵ (flft κ′ q′)
-          ∷ ‵ (froom (T′.mir erased) l₁₃ 0) ∷ ‵ (fdies (T′.mir erased) l₁₃) ∷ ‵ (froom (tyInt w64) l₁₂ 0) ∷ ‵ (fdies (tyInt w64) l₁₂) ∷ ‵ (froom readTy l₁₁ 0) ∷ ‵ (fdies readTy l₁₁) ∷ ‵ (froom lentTy l₁₀ 0) ∷ ‵ (fdies lentTy l₁₀)
-          ∷ ‵ (froom (tyRef erased mut (tyInt w32)) l₉ 0) ∷ ‵ (fdies (tyRef erased mut (tyInt w32)) l₉) ∷ ‵ (froom tyUnit l₈ 0) ∷ ‵ (fdies tyUnit l₈) ∷ i₇ ∷ ‵ (fdies (T′.mir erased) l₇)
-          ∷ ‵ (froom (tyInt w64) l₆ 0) ∷ ‵ (fdies (tyInt w64) l₆) ∷ i₅ ∷ ‵ (fdies S′.mir l₅)
-          ∷ ‵ (fat fullShare (tyInt w64) l₄ 0 (vint w64 (t .index))) ∷ ‵ (fdies (tyInt w64) l₄) ∷ ‵ (fat fullShare (T′.mir erased) l₃ 0 (mach (t .at))) ∷ ‵ (fdies (T′.mir erased) l₃)
-          ∷ ‵ (fat fullShare bytesTy l₂ 0 v) ∷ ‵ (fdies bytesTy l₂) ∷ ‵ (fat fullShare wordsTy l₁ 0 (wv (length (t .words)))) ∷ ‵ (fdies wordsTy l₁) ∷ ‵ (froom tyUnit l₀ 0) ∷ ‵ (fdies tyUnit l₀) ∷ []
+      abbrev Locals : Turn w₀ (now s) → (List (Item 𝓤) → List (Item 𝓤)) → (List (Item 𝓤) → List (Item 𝓤)) → List (Item 𝓤)
+      Locals t five seven = ‵ (Words (t .words) (length (t .words))) ∷ ‵ Bytes ∷ ‵ (flft κ q) ∷ ‵ (flft κ′ q′)
+          ∷ empty readerTy l₁₃ (empty (tyInt w64) l₁₂ (empty readTy l₁₁ (empty lentTy l₁₀ (empty wordTy l₉ (empty tyUnit l₈ (seven (empty (tyInt w64) l₆ (five
+          (full (tyInt w64) l₄ (vint w64 (t .index)) (full readerTy l₃ (mach (t .at)) (full bytesTy l₂ v (full wordsTy l₁ (wv (length (t .words))) (empty tyUnit l₀ [])))))))))))))
 
       -- before a turn, and once `next` has found f
       abbrev At : Turn w₀ (now s) → List (Item 𝓤)
-      At t = Locals t (‵ (froom S′.mir l₅ 0)) (‵ (froom (T′.mir erased) l₇ 0))
+      At t = Locals t (empty S′.mir l₅) (empty readerTy l₇)
 
       abbrev Met : Turn w₀ (now s) → Found → List (Item 𝓤)
-      Met t f = Locals t (‵ (fat fullShare S′.mir l₅ 0 (only (EL.vals S.the-type S′.the-laws f)))) (‵ (fat fullShare (T′.mir erased) l₇ 0 (mach (t .at))))
+      Met t f = Locals t (full S′.mir l₅ (only (EL.vals S.the-type S′.the-laws f))) (full readerTy l₇ (mach (t .at)))
 
       abbrev Then : Kit.Post 𝓤 H
       Then = anyQ (afterBlock 𝓤 H (afterSeq 𝓤 H (Wp 𝓤 H (𝓣 .C) (𝓣 .Λ) E body.t-4 (atReturn 𝓤 H E Post)) (atReturn 𝓤 H E Post)))
@@ -300,7 +303,7 @@ module _ {M : Type 1} (𝓤 : URA M) (H : Heap 𝓤) (A : Atoms 𝓤) (W : Given
       unfolding afterTurn
       matched t End e =
           first ! $ by-variants ! 20 (whole !) (load ! (from ! (vrt ! refl (fld ! refl (stop !)))) (look-tag ! 20 (whole !))) tt (
-            (λ z. absurd (no-tag′ z)),
+            (λ z. absurd (omega (arith, z))),
             (
               (λ _.
                   assigns ! (of-opd ! (unit-lit !)) (from ! (stop !)) (init ! 30 refl (tt, tt)) $ returns-within ! Post refl (look ! 30 refl) $
@@ -351,13 +354,13 @@ module _ {M : Type 1} (𝓤 : URA M) (H : Heap 𝓤) (A : Atoms 𝓤) (W : Given
                 split ! $ move ! (1 ∷ []) $ use1 W (raw (fact 𝓤 ((r′ .bytes ≡ s) × (r′ .at ≡ end)))) (moved-said n end r′) $ heard ! ((r′ .bytes ≡ s) × (r′ .at ≡ end)) (λ e′. split ! $ move ! (1 ∷ []) $
                 -- [the reader; the token; Bytes; Words; the other token; _13; …]
                 peeks ! B (Is B) (shows 𝓤 H A B) r′ (u′ ∷ []) (λ is′.
-                land ! (from ! (stop !)) (store ! 25 refl (LL.lawful (T.the-type αᵉ) (T′.the-laws αᵉ) 𝓤 H A W .typed r′ _ is′ .0)) $ rewrite ! 25 (λ (z : Val). ‵ (fat fullShare (T′.mir erased) l₃ 0 z)) (is-mach r′ end u′ e′ is′) refl $
+                land ! (from ! (stop !)) (store ! 25 refl (LL.lawful (T.the-type αᵉ) (T′.the-laws αᵉ) 𝓤 H A W .typed r′ _ is′ .0)) $ rewrite ! 25 (λ (z : Val). ‵ (fat fullShare readerTy l₃ 0 z)) (is-mach r′ end u′ e′ is′) refl $
                 assigns-last ! (bin ! (load ! (from ! (stop !)) (look ! 23 refl)) (lit ! tt) (record { fits = index-ok })) (from ! (stop !)) (store ! 23 refl (tt, record { fits = index-ok })) $
                 forget ! 5 refl $ forget ! 7 refl $ forget ! 9 refl $ forget ! 11 refl $ forget ! 13 refl $ forget ! 15 refl $ forget ! 17 refl $ forget ! 19 refl $ forget ! 21 refl $
                 rewrite ! 3 (λ (m : ℕ). ‵ (Words (zs .0) m)) (sym l) refl $ rewrite ! 29 (λ (m : ℕ). ‵ (fat fullShare wordsTy l₁ 0 (wv m))) (sym l) refl $
                 drop ! $ split ! $ move ! (1 ∷ []) $ drop ! $ move ! (2 ∷ 1 ∷ 3 ∷ 0 ∷ []) $
                 again ! ≺ At t (record { words = zs .0; at = end; index = t .index + 1; so-far = turn w₀ (now s) ws n (t .index) (t .so-far) end here l ev }) (omega (arith, here .grows, here .within))))))))))))))),
-            ((λ z. absurd (no-tag z)), tt),
+            ((λ z. absurd (omega (arith, z))), tt),
           )
 
       turns : (t : Turn w₀ (now s)) → Sq W (At t) (runs (𝓣 .C) (𝓣 .Λ) E body.turn-1 (Turned t))
@@ -391,7 +394,7 @@ module _ {M : Type 1} (𝓤 : URA M) (H : Heap 𝓤) (A : Atoms 𝓤) (W : Given
         use1 W (later (some (λ (r : EventReader). ((‵ (flft κ′ q′) ⊛ ‵ ftrue) ⊛ ‵ (B .own r (u ∷ []))) ⊛ raw (ensured 𝓤 H A reader-at.ended (reader-at.clauses 𝓤 H A mem run) (κ′, tt) (s, (0, tt)) tt r)))) (id⊢ 𝓤 _) $ await ! tt $ pick ! (λ r.
         split ! $ move ! (1 ∷ []) $ use1 W (raw (fact 𝓤 ((r .bytes ≡ s) × (r .at ≡ 0)))) (reader-at-said r) $ heard ! ((r .bytes ≡ s) × (r .at ≡ 0)) (λ e. split ! $ move ! (1 ∷ []) $
         peeks ! B (Is B) (shows 𝓤 H A B) r (u ∷ []) (λ is.
-        land ! (from ! (stop !)) (init ! 27 refl (LL.lawful (T.the-type αᵉ) (T′.the-laws αᵉ) 𝓤 H A W .typed r _ is .0)) $ rewrite ! 27 (λ (z : Val). ‵ (fat fullShare (T′.mir erased) l₃ 0 z)) (is-mach r 0 u e is) refl $
+        land ! (from ! (stop !)) (init ! 27 refl (LL.lawful (T.the-type αᵉ) (T′.the-laws αᵉ) 𝓤 H A W .typed r _ is .0)) $ rewrite ! 27 (λ (z : Val). ‵ (fat fullShare readerTy l₃ 0 z)) (is-mach r 0 u e is) refl $
         assigns ! (of-opd ! (lit ! tt)) (from ! (stop !)) (init ! 25 refl (tt, record { fits = lit< tt })) $ first ! $ blocks ! $
         -- [the reader; its token; Bytes; the other token; …; …; Words; _13; …]
         drop ! $ split ! $ move ! (1 ∷ 4 ∷ 5 ∷ []) $ drop ! $ drop ! $ drop ! $ move ! (3 ∷ 1 ∷ 2 ∷ 0 ∷ []) $
