@@ -1,17 +1,18 @@
 -- The three demands of paper 00 as theorems over the definitions of paper 01. Read this file first: each theorem stands under the sentence that it
--- proves. The definitions that it names are in crates/definitions/specs, but for two that stand beside their laws: `FoundFirst` in Refused.antt, and `Good`,
--- a well-formed state, in WellFormed.antt. That the code does what `outcome` says is the contract of `gate::handle`.
+-- proves. The definitions that it names are in crates/definitions/specs, but for those that stand beside their laws: `FoundFirst` in Refused.antt, `Good`, a
+-- well-formed state, in WellFormed.antt, and what a counter counts in Counters.antt. That the code does what `outcome` says is the contract of `gate::handle`.
 -- Assumes nothing.
 use mathlib.Core.Bool.{Bool, true, not, false}
 use mathlib.Core.List.{List}
 use mathlib.Core.Path.{_≡_, ap, sym, _∙_}
 use Prim.Native.Nat.{ℕ, _<_}
 use Rattle.definitions.specs.declared.Order.{Order}
+use Rattle.definitions.specs.declared.Counter.{Counter}
 use Rattle.definitions.specs.declared.Event.{Event}
 use Rattle.definitions.specs.declared.Event.the-variants as event
 use Rattle.definitions.specs.declared.Answer.the-variants as answer
-use Rattle.definitions.specs.Lists.{all, keep}
-use Rattle.definitions.specs.State.{headerOf, sizesFit, fresh, putDesk, deskWords, stateFits}
+use Rattle.definitions.specs.Lists.{all, keep, count}
+use Rattle.definitions.specs.State.{headerOf, sizesFit, fresh, deskAt, putDesk, deskWords, stateFits}
 use Rattle.definitions.specs.Gate.{answerOf, wordsOf, recordsSound, conditions, verdictAt, orderedAt, perform, outcome, eventAnswer, eventWords, wordsAfter, answersTo}
 use Rattle.definitions.specs.Lone.{Lone, loneFresh, loneAfter, loneAnswers, isFed, marketWords, customerWords}
 use Rattle.definitions.proofs.State as state
@@ -22,6 +23,7 @@ use Rattle.definitions.proofs.Refused as refusals
 use Rattle.definitions.proofs.Refused.{FoundFirst}
 use Rattle.definitions.proofs.Isolation.{loneOf}
 use Rattle.definitions.proofs.Histories.{good-after, same-answers, same-after}
+use Rattle.definitions.proofs.Counters.{counterIn, countsAnswer, upToMax, belongsTo, counts-fresh}
 use Rattle.definitions.specs.Events.{eventIn}
 use Rattle.definitions.specs.Refusals.{badName}
 
@@ -79,6 +81,14 @@ module _ (customers securities : ℕ) (fit : sizesFit customers securities ≡ t
       let w = wordsAfter (fresh customers securities) history in
       let does : outcome w b ≡ perform w (event.Order k o) = performs history b answered ∙ ap (perform w) e in
       record { verdict = ap answerOf does; words = ap (wordsOf w) does }
+
+  -- "Each verdict adds 1 to its counter, except where refusal 12 follows"; "each stays at 4,294,967,295 once there": after every history each counter of a
+  -- customer is the number of the answers of its kind to that customer's events, up to 4,294,967,295
+  pub counters : (k : ℕ) → k < customers → (history : List (List ℕ)) (c : Counter)
+      → counterIn c (deskAt (wordsAfter (fresh customers securities) history) k)
+      ≡ upToMax (count (countsAnswer c) (answersTo (belongsTo customers k) (fresh customers securities) history))
+  counters k below history c =
+      counts-fresh c k below (fresh customers securities) (fresh-good customers securities fit) (fresh-desk customers securities k below) history
 
   -- DEMAND 3: for every history and every customer k, "these answers, rows, counters and words are exactly those of the lone run in document 01, which is
   -- fed these events and nothing of the others"

@@ -20,6 +20,8 @@ pub mod WellFormed
 pub mod Fresh
 pub mod Isolation
 pub mod Histories
+-- the paper's sentences about all histories
+pub mod Counters
 -- refusals: the first condition met, and answers told from their numbers
 pub mod Refused
 pub mod Numbers

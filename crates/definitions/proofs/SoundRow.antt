@@ -13,7 +13,7 @@ use Rattle.definitions.specs.Codes.{freeMark, openMark, cancelledMark, f
 use Rattle.definitions.specs.Sound.{marked, allZero, pricedAs, openOrCancelled, soundMarked, soundRow, numbered}
 use Rattle.definitions.specs.Desks.{freeRow, cancelledInMinute, isOpen, openOrInMinute, openWith, expiredRow, sessionRow, markedCancelled, cancelledRow, withVolume, matchedRow, inMinute}
 use Rattle.definitions.specs.Refusals.{holdsNumber}
-use Rattle.definitions.proofs.Tests.{never, and-parts, and-whole, and-same, or-first, or-second, or-cases, joined-parts, joined-whole}
+use Rattle.definitions.proofs.Tests.{never, either, and-parts, and-whole, and-same, or-first, or-second, or-cases, joined-parts, joined-whole}
 use Rattle.definitions.proofs.Rows.{KeepsNumbers}
 use Rattle.definitions.specs.Lists.{all}
 use Rattle.definitions.specs.State.{rowWords}
@@ -144,11 +144,6 @@ later-row S clock later h r e =
       most = m .most;
     }))
     (row-cases S clock r e)
-
--- what holds of both rows that a test chooses from, each under its outcome
-either : (P : Row → Type 0) (t : Bool) (a b : Row) → (t ≡ true → P a) → (t ≡ false → P b) → P (cond t a b)
-either P true a b p q = p refl
-either P false a b p q = q refl
 
 open-marked : (number : ℕ) (r : Row) → openWith number r ≡ true → marked r ≡ true
 open-marked number r e = rw (eqb-true (r .mark) openMark (and-parts (isOpen r) (eqb (r .number) number) e .0))
