@@ -1,6 +1,7 @@
 -- The three demands of paper 00 as theorems over the definitions of paper 01. Read this file first: each theorem stands under the sentence that it
 -- proves. The definitions that it names are in crates/definitions/specs, but for those that stand beside their laws: `FoundFirst` in Refused.antt, `Good`, a
--- well-formed state, in WellFormed.antt, and what a counter counts in Counters.antt. That the code does what `outcome` says is the contract of `gate::handle`.
+-- well-formed state, in WellFormed.antt, what a counter counts in Counters.antt, and
+-- what a session change leaves in SessionChange.antt. That the code does what `outcome` says is the contract of `gate::handle`.
 -- Assumes nothing.
 use mathlib.Core.Bool.{Bool, true, not, false}
 use mathlib.Core.List.{List}
@@ -24,6 +25,8 @@ use Rattle.definitions.proofs.Refused.{FoundFirst}
 use Rattle.definitions.proofs.Isolation.{loneOf}
 use Rattle.definitions.proofs.Histories.{good-after, same-answers, same-after}
 use Rattle.definitions.proofs.Counters.{counterIn, countsAnswer, upToMax, belongsTo, counts-fresh}
+use Rattle.definitions.proofs.SessionChange as sessions
+use Rattle.definitions.proofs.SessionChange.{SessionChanged}
 use Rattle.definitions.specs.Events.{eventIn}
 use Rattle.definitions.specs.Refusals.{badName}
 
@@ -89,6 +92,19 @@ module _ (customers securities : ℕ) (fit : sizesFit customers securities ≡ t
       ≡ upToMax (count (countsAnswer c) (answersTo (belongsTo customers k) (fresh customers securities) history))
   counters k below history c =
       counts-fresh c k below (fresh customers securities) (fresh-good customers securities fit) (fresh-desk customers securities k below) history
+
+  -- "A session that differs from the present one removes all ATO and ATC rows and makes every projected price absent": limit rows and counters stay, and so does
+  -- every other word of a security and of the header
+  pub another-session : (history : List (List ℕ)) (b : List ℕ) (s : ℕ) → eventIn b ≡ event.Session s
+      → ((n : ℕ) → eventAnswer (wordsAfter (fresh customers securities) history) b ≡ answer.Refused n → ⊥)
+      → (s ≡ headerOf (wordsAfter (fresh customers securities) history) .session → ⊥)
+      → SessionChanged customers securities s (wordsAfter (fresh customers securities) history) (eventWords (wordsAfter (fresh customers securities) history) b)
+  another-session history b s = sessions.another-session (wordsAfter (fresh customers securities) history) (well-formed history) s b
+
+  -- "the same session changes nothing"
+  pub same-session : (history : List (List ℕ)) (b : List ℕ) → eventIn b ≡ event.Session (headerOf (wordsAfter (fresh customers securities) history) .session)
+      → eventWords (wordsAfter (fresh customers securities) history) b ≡ wordsAfter (fresh customers securities) history
+  same-session history = sessions.same-session (wordsAfter (fresh customers securities) history)
 
   -- DEMAND 3: for every history and every customer k, "these answers, rows, counters and words are exactly those of the lone run in document 01, which is
   -- fed these events and nothing of the others"

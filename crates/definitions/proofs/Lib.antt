@@ -20,11 +20,12 @@ pub mod WellFormed
 pub mod Fresh
 pub mod Isolation
 pub mod Histories
--- the paper's sentences about all histories
-pub mod Counters
 -- refusals: the first condition met, and answers told from their numbers
 pub mod Refused
 pub mod Numbers
+-- the paper's sentences about all histories
+pub mod Counters
+pub mod SessionChange
 -- the three demands
 pub mod Demands
 -- the paper's cases

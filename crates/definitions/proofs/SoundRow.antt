@@ -148,17 +148,23 @@ later-row S clock later h r e =
 open-marked : (number : ℕ) (r : Row) → openWith number r ≡ true → marked r ≡ true
 open-marked number r e = rw (eqb-true (r .mark) openMark (and-parts (isOpen r) (eqb (r .number) number) e .0))
 
+-- a session change frees a row or leaves it, and leaves none of ATO and ATC; the end of a minute frees a row or leaves it
+pub session-frees : (P : Row → Type 0) (r : Row) → P freeRow → (isAuction (r .«order_type») ≡ false → P r) → P (sessionRow r)
+session-frees P r free left = either P _ freeRow r (λ _. free) left
+
+expired-frees : (P : Row → Type 0) (clock : ℕ) (r : Row) → P freeRow → P r → P (expiredRow clock r)
+expired-frees P clock r free left = either P (eqb (r .mark) cancelledMark && not (cancelledInMinute clock r)) freeRow r (λ _. free) (λ _. left)
+
 -- the changes leave a row sound
 module _ (S clock : ℕ) where
   abbrev Sound : Row → Type 0
   Sound x = soundRow S clock x ≡ true
 
   pub session-sound : (r : Row) → soundRow S clock r ≡ true → soundRow S clock (sessionRow r) ≡ true
-  session-sound r e = either Sound (isAuction (r .«order_type»)) freeRow r (λ _. free-row S clock) (λ _. e)
+  session-sound r e = session-frees Sound r (free-row S clock) (λ _. e)
 
   pub expired-sound : (r : Row) → soundRow S clock r ≡ true → soundRow S clock (expiredRow clock r) ≡ true
-  expired-sound r e =
-      either Sound (eqb (r .mark) cancelledMark && not (cancelledInMinute clock r)) freeRow r (λ _. free-row S clock) (λ _. e)
+  expired-sound r e = expired-frees Sound clock r (free-row S clock) e
 
   markedCancelled-sound : (r : Row) → SoundMarked S clock r → eqb (r .«order_type») limit ≡ true → soundRow S clock (markedCancelled clock r) ≡ true
   markedCancelled-sound r h l =
@@ -222,10 +228,10 @@ stays : (r : Row) → Kept r r
 stays r e = (e, refl)
 
 pub session-kept : KeepsNumbers sessionRow
-session-kept r = either (Kept r) (isAuction (r .«order_type»)) freeRow r (λ _. gone r) (λ _. stays r)
+session-kept r = session-frees (Kept r) r (gone r) (λ _. stays r)
 
 pub expired-kept : (clock : ℕ) → KeepsNumbers (expiredRow clock)
-expired-kept clock r = either (Kept r) (eqb (r .mark) cancelledMark && not (cancelledInMinute clock r)) freeRow r (λ _. gone r) (λ _. stays r)
+expired-kept clock r = expired-frees (Kept r) clock r (gone r) (stays r)
 
 pub cancelled-kept : (number clock : ℕ) → KeepsNumbers (cancelledRow number clock)
 cancelled-kept number clock r =
