@@ -1,17 +1,20 @@
 -- The three demands of paper 00 as theorems over the definitions of paper 01. Read this file first: each theorem stands under the sentence that it
--- proves. The definitions that it names are in crates/definitions/specs, but for those that stand beside their laws: `FoundFirst` in Refused.antt, `Good`, a
--- well-formed state, in WellFormed.antt, what a counter counts in Counters.antt, and
--- what a session change leaves in SessionChange.antt. That the code does what `outcome` says is the contract of `gate::handle`.
+-- proves. The definitions that it names are in crates/definitions/specs, but for those that stand beside their laws: `FoundFirst` in Refused.antt, `Good`,
+-- a well-formed state, in WellFormed.antt, what a counter counts in Counters.antt, what a session change leaves in SessionChange.antt, and where a row stands
+-- in Minute.antt. That the code does what `outcome` says is the contract of `gate::handle`.
 -- Assumes nothing.
 use mathlib.Core.Bool.{Bool, true, not, false}
 use mathlib.Core.List.{List}
 use mathlib.Core.Path.{_≡_, ap, sym, _∙_}
-use Prim.Native.Nat.{ℕ, _<_}
+use Prim.Native.Nat.{ℕ, _+_, _≤_, _<_}
+use Rattle.definitions.specs.declared.Row.{Row}
 use Rattle.definitions.specs.declared.Order.{Order}
+use Rattle.definitions.specs.declared.Cancel.{Cancel}
 use Rattle.definitions.specs.declared.Counter.{Counter}
 use Rattle.definitions.specs.declared.Event.{Event}
 use Rattle.definitions.specs.declared.Event.the-variants as event
 use Rattle.definitions.specs.declared.Answer.the-variants as answer
+use Rattle.definitions.specs.Codes.{openMark, cancelledMark, limit}
 use Rattle.definitions.specs.Lists.{all, keep, count}
 use Rattle.definitions.specs.State.{headerOf, sizesFit, fresh, deskAt, putDesk, deskWords, stateFits}
 use Rattle.definitions.specs.Gate.{answerOf, wordsOf, recordsSound, conditions, verdictAt, orderedAt, perform, outcome, eventAnswer, eventWords, wordsAfter, answersTo}
@@ -27,6 +30,8 @@ use Rattle.definitions.proofs.Histories.{good-after, same-answers, same
 use Rattle.definitions.proofs.Counters.{counterIn, countsAnswer, upToMax, belongsTo, counts-fresh}
 use Rattle.definitions.proofs.SessionChange as sessions
 use Rattle.definitions.proofs.SessionChange.{SessionChanged}
+use Rattle.definitions.proofs.Minute as minute
+use Rattle.definitions.proofs.Minute.{StandsIn, cancelledAt}
 use Rattle.definitions.specs.Events.{eventIn}
 use Rattle.definitions.specs.Refusals.{badName}
 
@@ -105,6 +110,22 @@ module _ (customers securities : ℕ) (fit : sizesFit customers securities ≡ t
   pub same-session : (history : List (List ℕ)) (b : List ℕ) → eventIn b ≡ event.Session (headerOf (wordsAfter (fresh customers securities) history) .session)
       → eventWords (wordsAfter (fresh customers securities) history) b ≡ wordsAfter (fresh customers securities) history
   same-session history = sessions.same-session (wordsAfter (fresh customers securities) history)
+
+  -- "A cancel marks an open limit row cancelled at the present clock"
+  pub cancel-marks : (history : List (List ℕ)) (b : List ℕ) (k : ℕ) (x : Cancel) → eventIn b ≡ event.Cancel k x
+      → ((n : ℕ) → eventAnswer (wordsAfter (fresh customers securities) history) b ≡ answer.Refused n → ⊥)
+      → (r : Row) → StandsIn r (deskAt (wordsAfter (fresh customers securities) history) k .rows)
+      → r .mark ≡ openMark → r .number ≡ x .number → r .«order_type» ≡ limit
+      → StandsIn (cancelledAt (headerOf (wordsAfter (fresh customers securities) history) .clock) r) (deskAt (eventWords (wordsAfter (fresh customers securities) history) b) k .rows)
+  cancel-marks history = minute.cancel-marks (wordsAfter (fresh customers securities) history) (well-formed history)
+
+  -- "first removes that customer's rows cancelled more than 60,000 ms ago", and nothing else removes a cancelled row: one cancelled at time t stands in its desk,
+  -- unchanged, after any events while the clock is at most t + 60,000
+  pub stays-a-minute : (k : ℕ) → k < customers → (history : List (List ℕ)) (r : Row) → r .mark ≡ cancelledMark
+      → StandsIn r (deskAt (wordsAfter (fresh customers securities) history) k .rows)
+      → (later : List (List ℕ)) → headerOf (wordsAfter (wordsAfter (fresh customers securities) history) later) .clock ≤ r .«cancel_time» + 60_000
+      → StandsIn r (deskAt (wordsAfter (wordsAfter (fresh customers securities) history) later) k .rows)
+  stays-a-minute k below history r mark = minute.left-in-minute k below r mark (wordsAfter (fresh customers securities) history) (well-formed history)
 
   -- DEMAND 3: for every history and every customer k, "these answers, rows, counters and words are exactly those of the lone run in document 01, which is
   -- fed these events and nothing of the others"

@@ -26,6 +26,8 @@ pub mod Numbers
 -- the paper's sentences about all histories
 pub mod Counters
 pub mod SessionChange
+pub mod Performed
+pub mod Minute
 -- the three demands
 pub mod Demands
 -- the paper's cases

@@ -138,7 +138,7 @@ desk-cleared d =
     }
 
 module _ {customers securities : ℕ} (w : List ℕ) (good : Good customers securities w) (s : ℕ) where
-  changed-words : SessionChanged customers securities s w (each (headerOf w .customers) (changeDesk (changed sessionRow)) (sessionMarket s w))
+  pub changed-words : SessionChanged customers securities s w (each (headerOf w .customers) (changeDesk (changed sessionRow)) (sessionMarket s w))
   changed-words =
       let c = cleared w good s in
       let v = whole-session w good s in

@@ -117,6 +117,12 @@ module _ (clock : ℕ) (r : Row) where
   cancelled-state : Cancelled clock r → openOrCancelled clock r ≡ true
   cancelled-state c = or-second whenOpen (and-whole (and-whole (c .mark) (c .time)) (c .«order_type»))
 
+-- "a cancelled row is a limit"
+pub cancelled-limit : (S clock : ℕ) (r : Row) → soundRow S clock r ≡ true → r .mark ≡ cancelledMark → r .«order_type» ≡ limit
+cancelled-limit S clock r e m =
+    ⊎-elim (λ o. absurd (omega (arith, eqb-true (r .mark) openMark (o .mark)))) (λ c. eqb-true (r .«order_type») limit (c .«order_type»))
+    (state-cases clock r (row-marked S clock r e (rw m) .state))
+
 -- a cancel time that is at most the clock is at most a later clock
 later-state : (clock later : ℕ) (r : Row) → clock ≤ later → openOrCancelled clock r ≡ true → openOrCancelled later r ≡ true
 later-state clock later r h e =
@@ -152,7 +158,7 @@ open-marked number r e = rw (eqb-true (r .mark) openMark (and-parts (isOpen r) (
 pub session-frees : (P : Row → Type 0) (r : Row) → P freeRow → (isAuction (r .«order_type») ≡ false → P r) → P (sessionRow r)
 session-frees P r free left = either P _ freeRow r (λ _. free) left
 
-expired-frees : (P : Row → Type 0) (clock : ℕ) (r : Row) → P freeRow → P r → P (expiredRow clock r)
+pub expired-frees : (P : Row → Type 0) (clock : ℕ) (r : Row) → P freeRow → P r → P (expiredRow clock r)
 expired-frees P clock r free left = either P (eqb (r .mark) cancelledMark && not (cancelledInMinute clock r)) freeRow r (λ _. free) (λ _. left)
 
 -- the changes leave a row sound
