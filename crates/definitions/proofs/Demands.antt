@@ -1,7 +1,7 @@
 -- The three demands of paper 00 as theorems over the definitions of paper 01. Read this file first: each theorem stands under the sentence that it
 -- proves. The definitions that it names are in crates/definitions/specs, but for those that stand beside their laws: `FoundFirst` in Refused.antt, `Good`,
--- a well-formed state, in WellFormed.antt, what a counter counts in Counters.antt, what a session change leaves in SessionChange.antt, and where a row stands
--- in Minute.antt. That the code does what `outcome` says is the contract of `gate::handle`.
+-- a well-formed state, in WellFormed.antt, what a counter counts in Counters.antt, what a session change leaves in SessionChange.antt, where a row
+-- stands in Minute.antt, and the session of an ATO or ATC row in AuctionRows.antt. That the code does what `outcome` says is the contract of `gate::handle`.
 -- Assumes nothing.
 use mathlib.Core.Bool.{Bool, true, not, false}
 use mathlib.Core.List.{List}
@@ -32,6 +32,8 @@ use Rattle.definitions.proofs.SessionChange as sessions
 use Rattle.definitions.proofs.SessionChange.{SessionChanged}
 use Rattle.definitions.proofs.Minute as minute
 use Rattle.definitions.proofs.Minute.{StandsIn, cancelledAt}
+use Rattle.definitions.proofs.AuctionRows as auctionRows
+use Rattle.definitions.proofs.AuctionRows.{InItsSession}
 use Rattle.definitions.specs.Events.{eventIn}
 use Rattle.definitions.specs.Refusals.{badName}
 
@@ -126,6 +128,12 @@ module _ (customers securities : ℕ) (fit : sizesFit customers securities ≡ t
       → (later : List (List ℕ)) → headerOf (wordsAfter (wordsAfter (fresh customers securities) history) later) .clock ≤ r .«cancel_time» + 60_000
       → StandsIn r (deskAt (wordsAfter (wordsAfter (fresh customers securities) history) later) k .rows)
   stays-a-minute k below history r mark = minute.left-in-minute k below r mark (wordsAfter (fresh customers securities) history) (well-formed history)
+
+  -- "removes all ATO and ATC rows", "ATO outside 1; ATC outside 4": after every history such a row is there only in the session that it was entered in
+  pub in-its-session : (k : ℕ) → k < customers → (history : List (List ℕ)) (r : Row) → StandsIn r (deskAt (wordsAfter (fresh customers securities) history) k .rows)
+      → InItsSession (headerOf (wordsAfter (fresh customers securities) history) .session) r
+  in-its-session k below =
+      auctionRows.in-its-session k below (fresh customers securities) (fresh-good customers securities fit) (fresh-desk customers securities k below)
 
   -- DEMAND 3: for every history and every customer k, "these answers, rows, counters and words are exactly those of the lone run in document 01, which is
   -- fed these events and nothing of the others"

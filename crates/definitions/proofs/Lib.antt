@@ -28,6 +28,7 @@ pub mod Counters
 pub mod SessionChange
 pub mod Performed
 pub mod Minute
+pub mod AuctionRows
 -- the three demands
 pub mod Demands
 -- the paper's cases
