@@ -43,6 +43,10 @@ use Rattle.definitions.specs.Refusals.{badName}
 pub refused-unchanged : (w b : List ℕ) (n : ℕ) → eventAnswer w b ≡ answer.Refused n → eventWords w b ≡ w
 refused-unchanged w b n e = refusals.refused w b n e .words
 
+-- "Each verdict adds 1 to its counter, except where refusal 12 follows"
+pub full-desk-uncounted : (w b : List ℕ) → eventAnswer w b ≡ answer.Refused 12 → (k : ℕ) (c : Counter) → counterIn c (deskAt (eventWords w b) k) ≡ counterIn c (deskAt w k)
+full-desk-uncounted w b e k c = ap (λ (v : List ℕ). counterIn c (deskAt v k)) (refused-unchanged w b 12 e)
+
 -- "no refusal comes except under the condition document 01 sets for its number": the condition with that number is met, and none above it in the table
 pub refused-by-condition : (w b : List ℕ) (n : ℕ) → eventAnswer w b ≡ answer.Refused n → FoundFirst n (conditions w b)
 refused-by-condition w b n e =
