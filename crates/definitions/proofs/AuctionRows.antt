@@ -1,10 +1,10 @@
 -- ATO and ATC rows over histories: rule S lets them in only in their session, and another session removes them.
 -- Assumes nothing.
-use mathlib.Core.Bool.{Bool, true, false, cond, _&&_, _||_, not}
+use mathlib.Core.Bool.{Bool, true, false, _&&_, _||_, not}
 use mathlib.Core.List.{List, [], _∷_, map}
 use mathlib.Core.Path.{_≡_, refl, subst}
 use Prim.Native.Nat.{ℕ, zero, suc, _-_, _<_}
-use lib.Dec.{leb, eqb}
+use lib.Dec.{eqb}
 use lib.ListN.{length, replicate, set}
 use borrow.Author.Tests.{not-true, not-false, eqb-true}
 use Rattle.definitions.specs.declared.Header.{Header}
@@ -14,23 +14,23 @@ use Rattle.definitions.specs.declared.Order.{Order}
 use Rattle.definitions.specs.declared.Answer.{Answer}
 use Rattle.definitions.specs.declared.Event.{Event}
 use Rattle.definitions.specs.declared.Event.the-variants as event
-use Rattle.definitions.specs.Codes.{closed, preOpen, opened, break, preClose, deskRows, ato, atc, mp, isLimit, isAuction}
+use Rattle.definitions.specs.Codes.{closed, preOpen, opened, break, preClose, deskRows, ato, atc, mp, isAuction}
 use Rattle.definitions.specs.Lists.{all, keep, count}
 use Rattle.definitions.specs.State.{headerOf, deskAt}
 use Rattle.definitions.specs.Sound.{marked}
-use Rattle.definitions.specs.Desks.{freeRow, freshDesk, openWith, markedCancelled, withVolume, closeUp, edited, expiredRow, sessionRow, cancelledRow, matchedRow, changed, rowOfOrder, added, counterOf, isRejected, counted, takesRow, ordered}
+use Rattle.definitions.specs.Desks.{freeRow, freshDesk, closeUp, edited, expiredRow, sessionRow, changed, rowOfOrder, added, counterOf, isRejected, counted, takesRow, ordered}
 use Rattle.definitions.specs.Rules.{View, pricesOn, bestOpposite, ruleS, verdictOf}
 use Rattle.definitions.specs.Gate.{eventWords, wordsAfter}
 use Rattle.definitions.specs.Lone.{Lone, loneView, loneVerdict, lonePerform}
 use Rattle.definitions.proofs.Tests.{either, and-parts, and-whole, or-parts}
 use Rattle.definitions.proofs.Rows.{all-append, all-replicate, all-keep, all-map}
-use Rattle.definitions.proofs.SoundRow.{session-frees, expired-frees}
+use Rattle.definitions.proofs.SoundRow.{session-frees, expired-frees, cancelled-frees, matched-frees}
 use Rattle.definitions.proofs.SoundDesk.{rows-counted, no-rules}
 use Rattle.definitions.proofs.State.{header-market}
 use Rattle.definitions.proofs.WellFormed.{Good, keeps}
 use Rattle.definitions.proofs.Isolation.{loneOf}
 use Rattle.definitions.proofs.Performed.{headerBy, other-header, kept-by-event, header-performed, desk-performed}
-use Rattle.definitions.proofs.Minute.{StandsIn, stands-all}
+use Rattle.definitions.proofs.Standing.{StandsIn, stands-all}
 
 -- "ATO outside 1; ATC outside 4" is rejected, and another session removes both: such a row is there only in its session
 pub record InItsSession (session : ℕ) (r : Row) : Type 0 where
@@ -52,39 +52,28 @@ told session r e =
       atc-row = λ type. eqb-true session preClose (not-false _ (not-true _ (rw type at (parts .1))));
     }
 
--- what holds of a row's type in a session
+-- rows of which each is in its session, edited and with one put among them
 module _ (session : ℕ) where
-  -- every row of rows that are edited
+  abbrev Fits : Row → Type 0
+  Fits r = rowInItsSession session r ≡ true
+
   abbrev Stands : List Row → Type 0
   Stands rows = all (rowInItsSession session) rows ≡ true
 
-  edited-stand : (p : Row → Bool) (f : Row → Row) → ((r : Row) → p r ≡ true → rowInItsSession session (f r) ≡ true) → (rows : List Row) → all p rows ≡ true → Stands (edited f rows)
+  edited-stand : (p : Row → Bool) (f : Row → Row) → ((r : Row) → p r ≡ true → Fits (f r)) → (rows : List Row) → all p rows ≡ true → Stands (edited f rows)
   unfolding edited closeUp
   edited-stand p f h rows given =
       let q = rowInItsSession session in
       let n = length (map f rows) - count marked (map f rows) in
       all-append q (keep marked (map f rows)) (replicate n freeRow) (all-keep q marked (map f rows) (all-map p q f h rows given)) (all-replicate q n freeRow refl)
 
-  set-stand : (rows : List Row) (i : ℕ) (r : Row) → Stands rows → rowInItsSession session r ≡ true → Stands (set rows i r)
+  set-stand : (rows : List Row) (i : ℕ) (r : Row) → Stands rows → Fits r → Stands (set rows i r)
   unfolding all
   set-stand [] i r given new = refl
   set-stand (x ∷ xs) zero r given new = and-whole new (and-parts (rowInItsSession session x) (all (rowInItsSession session) xs) given .1)
   set-stand (x ∷ xs) (suc i) r given new =
       let parts = and-parts (rowInItsSession session x) (all (rowInItsSession session) xs) given in
       and-whole (parts .0) (set-stand xs i r (parts .1) new)
-
-  abbrev Fits : Row → Type 0
-  Fits r = rowInItsSession session r ≡ true
-
-  cancelled-fits : (number clock : ℕ) (r : Row) → Fits r → Fits (cancelledRow number clock r)
-  cancelled-fits number clock r e =
-      either Fits (openWith number r) (cond (isLimit (r .«order_type»)) (markedCancelled clock r) freeRow) r
-      (λ _. either Fits (isLimit (r .«order_type»)) (markedCancelled clock r) freeRow (λ _. e) (λ _. refl)) (λ _. e)
-
-  matched-fits : (number volume : ℕ) (r : Row) → Fits r → Fits (matchedRow number volume r)
-  matched-fits number volume r e =
-      either Fits (openWith number r) (cond (leb (r .volume) volume) freeRow (withVolume (r .volume - volume) r)) r
-      (λ _. either Fits (leb (r .volume) volume) freeRow (withVolume (r .volume - volume) r) (λ _. refl) (λ _. e)) (λ _. e)
 
   -- a limit stands in any session
   other-fits : (r : Row) → isAuction (r .«order_type») ≡ false → Fits r
@@ -134,8 +123,8 @@ module _ (l : Lone) (given : Stands (headerOf (l .market) .session) (l .desk .ro
       (either (λ (d : Desk). Stands now (d .rows)) (takesRow v x) _ _
       (λ takes. set-stand now _ _ (rowOfOrder x) expired (order-fits (loneView l (x .security)) x takes))
       (λ _. given))
-  stand-performed (event.Cancel k x) = left-by _ (cancelled-fits now (x .number) (headerOf (l .market) .clock))
-  stand-performed (event.Match k x) = left-by _ (matched-fits now (x .number) (x .volume))
+  stand-performed (event.Cancel k x) = left-by _ (λ r e. cancelled-frees (Fits now) (x .number) (headerOf (l .market) .clock) r refl e (λ _ _. e))
+  stand-performed (event.Match k x) = left-by _ (λ r e. matched-frees (Fits now) (x .number) (x .volume) r refl e (λ _ _. e))
 
 fresh-stand : (session : ℕ) (d : Desk) → d ≡ freshDesk → Stands session (d .rows)
 fresh-stand session d e = rw e (all-replicate (rowInItsSession session) deskRows freeRow refl)

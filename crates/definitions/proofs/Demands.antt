@@ -1,7 +1,8 @@
 -- The three demands of paper 00 as theorems over the definitions of paper 01. Read this file first: each theorem stands under the sentence that it
 -- proves. The definitions that it names are in crates/definitions/specs, but for those that stand beside their laws: `FoundFirst` in Refused.antt, `Good`,
--- a well-formed state, in WellFormed.antt, what a counter counts in Counters.antt, what a session change leaves in SessionChange.antt, where a row
--- stands in Minute.antt, and the session of an ATO or ATC row in AuctionRows.antt. That the code does what `outcome` says is the contract of `gate::handle`.
+-- a well-formed state, in WellFormed.antt, what a counter counts in Counters.antt, what a session change leaves in SessionChange.antt, `StandsIn` in
+-- Standing.antt, a row as a cancel marks it in Minute.antt, and the session of an ATO or ATC row in AuctionRows.antt. That the code does what `outcome` says
+-- is the contract of `gate::handle`.
 -- Assumes nothing.
 use mathlib.Core.Bool.{Bool, true, not, false}
 use mathlib.Core.List.{List}
@@ -31,7 +32,8 @@ use Rattle.definitions.proofs.Counters.{counterIn, countsAnswer, upToMa
 use Rattle.definitions.proofs.SessionChange as sessions
 use Rattle.definitions.proofs.SessionChange.{SessionChanged}
 use Rattle.definitions.proofs.Minute as minute
-use Rattle.definitions.proofs.Minute.{StandsIn, cancelledAt}
+use Rattle.definitions.proofs.Standing.{StandsIn}
+use Rattle.definitions.proofs.Minute.{cancelledAt}
 use Rattle.definitions.proofs.AuctionRows as auctionRows
 use Rattle.definitions.proofs.AuctionRows.{InItsSession}
 use Rattle.definitions.specs.Events.{eventIn}

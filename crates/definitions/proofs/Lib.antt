@@ -27,6 +27,7 @@ pub mod Numbers
 pub mod Counters
 pub mod SessionChange
 pub mod Performed
+pub mod Standing
 pub mod Minute
 pub mod AuctionRows
 -- the three demands

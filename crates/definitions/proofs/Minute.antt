@@ -1,15 +1,13 @@
 -- The minute over histories: a cancel marks its row with the present clock, and that row stands in the desk, unchanged, while the clock is at most 60,000 ms
 -- later.
 -- Assumes nothing.
-use mathlib.Core.Bool.{Bool, true}
-use mathlib.Core.List.{List, [], _∷_, _++_, map, append-nil, List·Memᴰ, List·Memᴰ·head, List·Memᴰ·tail, Memᴰ·append-left}
-use mathlib.Core.Path.{_≡_, refl, ap, sym, subst, _∙_}
-use Prim.Native.Nat.{ℕ, zero, suc, _+_, _-_, _≤_, _<_}
+use mathlib.Core.List.{List, [], _∷_, map}
+use mathlib.Core.Path.{_≡_, refl, subst, _∙_}
+use Prim.Native.Nat.{ℕ, _+_, _-_, _≤_, _<_}
 use native.Mathlib.Nat.{le-refl}
 use native.Mathlib.Omega.{arith}
 use lib.Dec.{eqb}
-use lib.ListN.{length, replicate}
-use lib.Seq.{set-out}
+use lib.ListN.{length}
 use borrow.Author.Tests.{ltb-false, le-leb, eq-eqb}
 use Rattle.definitions.specs.declared.Row.{Row}
 use Rattle.definitions.specs.declared.Desk.{Desk}
@@ -19,15 +17,15 @@ use Rattle.definitions.specs.declared.Event.the-variants as event
 use Rattle.definitions.specs.declared.Answer.{Answer}
 use Rattle.definitions.specs.declared.Answer.the-variants as answer
 use Rattle.definitions.specs.Codes.{openMark, cancelledMark, limit, minute}
-use Rattle.definitions.specs.Lists.{all, keep, count}
+use Rattle.definitions.specs.Lists.{keep, count}
 use Rattle.definitions.specs.State.{row, headerOf, deskAt}
 use Rattle.definitions.specs.Sound.{marked, soundRow}
-use Rattle.definitions.specs.Desks.{freeRow, closeUp, edited, expiredRow, sessionRow, cancelledRow, matchedRow, changed, rowOfOrder, addedLast, added, counterOf, counted, takesRow, ordered}
+use Rattle.definitions.specs.Desks.{closeUp, edited, expiredRow, sessionRow, cancelledRow, matchedRow, changed, rowOfOrder, addedLast, added, counterOf, counted, takesRow, ordered}
 use Rattle.definitions.specs.Gate.{perform, eventAnswer, eventWords, wordsAfter}
 use Rattle.definitions.specs.Events.{eventIn}
 use Rattle.definitions.specs.Lone.{Lone, loneVerdict, lonePerform}
-use Rattle.definitions.proofs.Tests.{either, and-parts}
-use Rattle.definitions.proofs.Rows.{all-kept, count-all, added-closed}
+use Rattle.definitions.proofs.Tests.{either}
+use Rattle.definitions.proofs.Rows.{all-kept}
 use Rattle.definitions.proofs.SoundDesk.{rows-counted, desk-true, length-changed}
 use Rattle.definitions.proofs.SoundRow.{cancelled-limit}
 use Rattle.definitions.proofs.State.{header-market, length-desk-rows, desk-put-same}
@@ -35,6 +33,7 @@ use Rattle.definitions.proofs.Passed.{Passed, passed, none-met-event}
 use Rattle.definitions.proofs.WellFormed.{Good, keeps, customer-named}
 use Rattle.definitions.proofs.Refused.{unrefused, unrefused-performs}
 use Rattle.definitions.proofs.Isolation.{loneOf}
+use Rattle.definitions.proofs.Standing.{StandsIn, stands-all, stands-mapped, stands-kept, stands-edited, stands-added}
 use Rattle.definitions.proofs.Performed.{headerBy, kept-by-event, header-performed, desk-performed}
 
 -- refusal 7 never lets the clock go back
@@ -56,32 +55,6 @@ module _ {customers securities : ℕ} where
   unfolding wordsAfter
   clock-history w good [] = le-refl (headerOf w .clock)
   clock-history w good (b ∷ bs) = omega (arith, clock-event w good b, clock-history (eventWords w b) (keeps w good b) bs)
-
--- a row that stands among rows, and in rows that are edited
-abbrev pub StandsIn : Row → List Row → Type 0
-StandsIn r rows = List·Memᴰ r rows
-
-module _ {r : Row} where
-  stands-mapped : (f : Row → Row) {rows : List Row} {x : Row} → f r ≡ x → StandsIn r rows → StandsIn x (map f rows)
-  stands-mapped f e (List·Memᴰ·head same) = List·Memᴰ·head (sym e ∙ ap f same)
-  stands-mapped f e (List·Memᴰ·tail there) = List·Memᴰ·tail (stands-mapped f e there)
-
-  stands-kept : (p : Row → Bool) {rows : List Row} → p r ≡ true → StandsIn r rows → StandsIn r (keep p rows)
-  unfolding keep
-  stands-kept p e (List·Memᴰ·head same) = rw (sym (ap p same) ∙ e) (List·Memᴰ·head same)
-  stands-kept p {rows} e (List·Memᴰ·tail {x = x} {xs = xs} there) =
-      either (StandsIn r) (p x) (x ∷ keep p xs) (keep p xs) (λ _. List·Memᴰ·tail (stands-kept p e there)) (λ _. stands-kept p e there)
-
--- a row that a change makes of one that stands there
-stands-edited : {r : Row} (f : Row → Row) {x : Row} {rows : List Row} → f r ≡ x → marked x ≡ true → StandsIn r rows → StandsIn x (edited f rows)
-unfolding edited closeUp
-stands-edited f e m there = Memᴰ·append-left _ (stands-kept marked m (stands-mapped f e there))
-
--- a row put at the first free place, or nowhere where none is left
-stands-added : {r : Row} (new : Row) (front : List Row) (n : ℕ) → all marked front ≡ true → StandsIn r front → StandsIn r (addedLast new (front ++ replicate n freeRow))
-stands-added new front zero h there =
-    rw (append-nil front, set-out front (count marked front) new (omega (arith, count-all marked front h))) there
-stands-added new front (suc n) h there = rw (added-closed front n new h) (Memᴰ·append-left _ (Memᴰ·append-left _ there))
 
 -- a cancelled row of the lone run in its minute
 module _ (l : Lone) (r : Row) (mark : r .mark ≡ cancelledMark) (type : r .«order_type» ≡ limit) (now : headerOf (l .market) .clock ≤ r .«cancel_time» + 60_000)
@@ -110,11 +83,6 @@ module _ (l : Lone) (r : Row) (mark : r .mark ≡ cancelledMark) (type : r .«or
       rw (rows-counted (counterOf v) _) (either (λ (d : Desk). StandsIn r (d .rows)) (takesRow v x) _ _ (λ _. left-by-order (rowOfOrder x)) (λ _. there))
   left-performed (event.Cancel k x) = left-by (cancelledRow (x .number) (headerOf (l .market) .clock)) (rw mark)
   left-performed (event.Match k x) = left-by (matchedRow (x .number) (x .volume)) (rw mark)
-
-pub stands-all : {r : Row} (p : Row → Bool) {rows : List Row} → all p rows ≡ true → StandsIn r rows → p r ≡ true
-unfolding all
-stands-all p h (List·Memᴰ·head {x = x} {xs = xs} same) = ap p same ∙ and-parts (p x) (all p xs) h .0
-stands-all p h (List·Memᴰ·tail {x = x} {xs = xs} there) = stands-all p (and-parts (p x) (all p xs) h .1) there
 
 module _ {customers securities : ℕ} (k : ℕ) (below : k < customers) (r : Row) (mark : r .mark ≡ cancelledMark) where
   -- "a cancelled row is a limit"

@@ -154,12 +154,20 @@ later-row S clock later h r e =
 open-marked : (number : ℕ) (r : Row) → openWith number r ≡ true → marked r ≡ true
 open-marked number r e = rw (eqb-true (r .mark) openMark (and-parts (isOpen r) (eqb (r .number) number) e .0))
 
--- a session change frees a row or leaves it, and leaves none of ATO and ATC; the end of a minute frees a row or leaves it
+-- what holds of a free row, of the row itself and of what a change makes of it holds of the changed row. A session change leaves no row of ATO and ATC.
 pub session-frees : (P : Row → Type 0) (r : Row) → P freeRow → (isAuction (r .«order_type») ≡ false → P r) → P (sessionRow r)
 session-frees P r free left = either P _ freeRow r (λ _. free) left
 
 pub expired-frees : (P : Row → Type 0) (clock : ℕ) (r : Row) → P freeRow → P r → P (expiredRow clock r)
 expired-frees P clock r free left = either P (eqb (r .mark) cancelledMark && not (cancelledInMinute clock r)) freeRow r (λ _. free) (λ _. left)
+
+pub cancelled-frees : (P : Row → Type 0) (number clock : ℕ) (r : Row) → P freeRow → P r
+    → (openWith number r ≡ true → eqb (r .«order_type») limit ≡ true → P (markedCancelled clock r)) → P (cancelledRow number clock r)
+cancelled-frees P number clock r free left marks = either P (openWith number r) _ r (λ opened. either P _ _ freeRow (marks opened) (λ _. free)) (λ _. left)
+
+pub matched-frees : (P : Row → Type 0) (number volume : ℕ) (r : Row) → P freeRow → P r
+    → (openWith number r ≡ true → leb (r .volume) volume ≡ false → P (withVolume (r .volume - volume) r)) → P (matchedRow number volume r)
+matched-frees P number volume r free left lowers = either P (openWith number r) _ r (λ opened. either P _ freeRow _ (λ _. free) (lowers opened)) (λ _. left)
 
 -- the changes leave a row sound
 module _ (S clock : ℕ) where
@@ -177,7 +185,7 @@ module _ (S clock : ℕ) where
       true-marked S clock
       (markedCancelled clock r)
       (record {
-        state = and-whole (le-leb clock clock (omega arith)) l;
+        state = and-whole (le-leb (markedCancelled clock r .«cancel_time») clock (omega arith)) l;
         number = h .number;
         security = h .security;
         board = h .board;
@@ -190,12 +198,7 @@ module _ (S clock : ℕ) where
 
   pub cancelled-sound : (number : ℕ) (r : Row) → soundRow S clock r ≡ true → soundRow S clock (cancelledRow number clock r) ≡ true
   cancelled-sound number r e =
-      either Sound (openWith number r) (cond (eqb (r .«order_type») limit) (markedCancelled clock r) freeRow) r
-      (λ opened.
-      either Sound (eqb (r .«order_type») limit) (markedCancelled clock r) freeRow
-      (markedCancelled-sound r (row-marked S clock r e (open-marked number r opened)))
-      (λ _. free-row S clock))
-      (λ _. e)
+      cancelled-frees Sound number clock r (free-row S clock) e (λ opened. markedCancelled-sound r (row-marked S clock r e (open-marked number r opened)))
 
   withVolume-sound : (volume : ℕ) (r : Row) → SoundMarked S clock r → leb (r .volume) volume ≡ false
       → soundRow S clock (withVolume (r .volume - volume) r) ≡ true
@@ -216,12 +219,7 @@ module _ (S clock : ℕ) where
 
   pub matched-sound : (number volume : ℕ) (r : Row) → soundRow S clock r ≡ true → soundRow S clock (matchedRow number volume r) ≡ true
   matched-sound number volume r e =
-      either Sound (openWith number r) (cond (leb (r .volume) volume) freeRow (withVolume (r .volume - volume) r)) r
-      (λ opened.
-      either Sound (leb (r .volume) volume) freeRow (withVolume (r .volume - volume) r)
-      (λ _. free-row S clock)
-      (withVolume-sound volume r (row-marked S clock r e (open-marked number r opened))))
-      (λ _. e)
+      matched-frees Sound number volume r (free-row S clock) e (λ opened. withVolume-sound volume r (row-marked S clock r e (open-marked number r opened)))
 
 -- they mark none anew, and a row that stays keeps its number
 abbrev Kept : Row → Row → Type 0
@@ -240,19 +238,10 @@ pub expired-kept : (clock : ℕ) → KeepsNumbers (expiredRow clock)
 expired-kept clock r = expired-frees (Kept r) clock r (gone r) (stays r)
 
 pub cancelled-kept : (number clock : ℕ) → KeepsNumbers (cancelledRow number clock)
-cancelled-kept number clock r =
-    either (Kept r) (openWith number r) (cond (eqb (r .«order_type») limit) (markedCancelled clock r) freeRow) r
-    (λ opened.
-    either (Kept r) (eqb (r .«order_type») limit) (markedCancelled clock r) freeRow
-    (λ _ _. (open-marked number r opened, refl))
-    (λ _. gone r))
-    (λ _. stays r)
+cancelled-kept number clock r = cancelled-frees (Kept r) number clock r (gone r) (stays r) (λ opened _ _. (open-marked number r opened, refl))
 
 pub matched-kept : (number volume : ℕ) → KeepsNumbers (matchedRow number volume)
-matched-kept number volume r =
-    either (Kept r) (openWith number r) (cond (leb (r .volume) volume) freeRow (withVolume (r .volume - volume) r)) r
-    (λ _. either (Kept r) (leb (r .volume) volume) freeRow (withVolume (r .volume - volume) r) (λ _. gone r) (λ _ m. (m, refl)))
-    (λ _. stays r)
+matched-kept number volume r = matched-frees (Kept r) number volume r (gone r) (stays r) (λ _ _ m. (m, refl))
 
 -- the three marks that a sound row may have
 mark-cases : (S clock : ℕ) (r : Row) → soundRow S clock r ≡ true
