@@ -1,20 +1,26 @@
 -- The three demands of paper 00 as theorems over the definitions of paper 01. Read this file first: each theorem stands under the sentence that it
 -- proves. The definitions that it names are in crates/definitions/specs, but for those that stand beside their laws: `FoundFirst` in Refused.antt, `Good`,
--- a well-formed state, in WellFormed.antt, `AppliesFirst` in Verdicts.antt and `Belongs` in Ownership.antt. That the code does what `outcome` says is the contract of `gate::handle`.
+-- a well-formed state, in WellFormed.antt, `AppliesFirst` in Verdicts.antt, `Belongs` in Ownership.antt, what a counter counts in Counters.antt, what a
+-- session change leaves in SessionChange.antt, `StandsIn` in Standing.antt, a row as a cancel marks it in Minute.antt, and the session of an ATO or ATC row
+-- in AuctionRows.antt. That the code does what `outcome` says is the contract of `gate::handle`.
 -- Assumes nothing.
 use mathlib.Core.Bool.{Bool, true, not, false}
 use mathlib.Core.List.{List}
 use mathlib.Core.Logic.{_↔_}
 use mathlib.Core.Path.{_≡_, ap, sym, _∙_}
-use Prim.Native.Nat.{ℕ, _<_}
+use Prim.Native.Nat.{ℕ, _+_, _≤_, _<_}
+use Rattle.definitions.specs.declared.Row.{Row}
 use Rattle.definitions.specs.declared.Order.{Order}
+use Rattle.definitions.specs.declared.Cancel.{Cancel}
+use Rattle.definitions.specs.declared.Counter.{Counter}
 use Rattle.definitions.specs.declared.Event.{Event}
 use Rattle.definitions.specs.declared.Event.the-variants as event
 use Rattle.definitions.specs.declared.Verdict.{Verdict}
 use Rattle.definitions.specs.declared.Answer.{Answer}
 use Rattle.definitions.specs.declared.Answer.the-variants as answer
-use Rattle.definitions.specs.Lists.{all, keep}
-use Rattle.definitions.specs.State.{headerOf, sizesFit, fresh, putDesk, deskWords, stateFits}
+use Rattle.definitions.specs.Codes.{openMark, cancelledMark, limit}
+use Rattle.definitions.specs.Lists.{all, keep, count}
+use Rattle.definitions.specs.State.{headerOf, sizesFit, fresh, deskAt, putDesk, deskWords, stateFits}
 use Rattle.definitions.specs.Gate.{answerOf, wordsOf, recordsSound, conditions, viewAt, verdictAt, orderedAt, perform, outcome, eventAnswer, eventWords, wordsAfter, answersTo}
 use Rattle.definitions.specs.Lone.{Lone, loneFresh, loneAfter, loneAnswers, isFed, marketWords, customerWords}
 use Rattle.definitions.proofs.State as state
@@ -28,6 +34,14 @@ use Rattle.definitions.proofs.Ownership as ownership
 use Rattle.definitions.proofs.Ownership.{Belongs}
 use Rattle.definitions.proofs.Isolation.{loneOf}
 use Rattle.definitions.proofs.Histories.{good-after, same-answers, same-after}
+use Rattle.definitions.proofs.Counters.{counterIn, countsAnswer, upToMax, belongsTo, counts-fresh}
+use Rattle.definitions.proofs.SessionChange as sessions
+use Rattle.definitions.proofs.SessionChange.{SessionChanged}
+use Rattle.definitions.proofs.Minute as minute
+use Rattle.definitions.proofs.Standing.{StandsIn}
+use Rattle.definitions.proofs.Minute.{cancelledAt}
+use Rattle.definitions.proofs.AuctionRows as auctionRows
+use Rattle.definitions.proofs.AuctionRows.{InItsSession}
 use Rattle.definitions.specs.Events.{eventIn}
 use Rattle.definitions.specs.Refusals.{badName}
 
@@ -36,6 +50,10 @@ use Rattle.definitions.specs.Refusals.{badName}
 -- "no refused event changes a single lent word"
 pub refused-unchanged : (w b : List ℕ) (n : ℕ) → eventAnswer w b ≡ answer.Refused n → eventWords w b ≡ w
 refused-unchanged w b n e = refusals.refused w b n e .words
+
+-- "Each verdict adds 1 to its counter, except where refusal 12 follows"
+pub full-desk-uncounted : (w b : List ℕ) → eventAnswer w b ≡ answer.Refused 12 → (k : ℕ) (c : Counter) → counterIn c (deskAt (eventWords w b) k) ≡ counterIn c (deskAt w k)
+full-desk-uncounted w b e k c = ap (λ (v : List ℕ). counterIn c (deskAt v k)) (refused-unchanged w b 12 e)
 
 -- "no refusal comes except under the condition document 01 sets for its number": the condition with that number is met, and none above it in the table
 pub refused-by-condition : (w b : List ℕ) (n : ℕ) → eventAnswer w b ≡ answer.Refused n → FoundFirst n (conditions w b)
@@ -97,6 +115,49 @@ module _ (customers securities : ℕ) (fit : sizesFit customers securities ≡ t
       let given = judged history b k o e answered .verdict in
       let ways = both-ways (viewAt (wordsAfter (fresh customers securities) history) (o .security) k) o x in
       (λ a. ways .0 (same-verdict _ x (sym given ∙ a)), λ first. given ∙ ap answer.Verdict (ways .1 first))
+
+  -- "Each verdict adds 1 to its counter, except where refusal 12 follows"; "each stays at 4,294,967,295 once there": after every history each counter of a
+  -- customer is the number of the answers of its kind to that customer's events, up to 4,294,967,295
+  pub counters : (k : ℕ) → k < customers → (history : List (List ℕ)) (c : Counter)
+      → counterIn c (deskAt (wordsAfter (fresh customers securities) history) k)
+      ≡ upToMax (count (countsAnswer c) (answersTo (belongsTo customers k) (fresh customers securities) history))
+  counters k below history c =
+      counts-fresh c k below (fresh customers securities) (fresh-good customers securities fit) (fresh-desk customers securities k below) history
+
+  -- "A session that differs from the present one removes all ATO and ATC rows and makes every projected price absent": limit rows and counters stay, and so does
+  -- every other word of a security and of the header
+  pub another-session : (history : List (List ℕ)) (b : List ℕ) (s : ℕ) → eventIn b ≡ event.Session s
+      → ((n : ℕ) → eventAnswer (wordsAfter (fresh customers securities) history) b ≡ answer.Refused n → ⊥)
+      → (s ≡ headerOf (wordsAfter (fresh customers securities) history) .session → ⊥)
+      → SessionChanged customers securities s (wordsAfter (fresh customers securities) history) (eventWords (wordsAfter (fresh customers securities) history) b)
+  another-session history b s = sessions.another-session (wordsAfter (fresh customers securities) history) (well-formed history) s b
+
+  -- "the same session changes nothing"
+  pub same-session : (history : List (List ℕ)) (b : List ℕ) → eventIn b ≡ event.Session (headerOf (wordsAfter (fresh customers securities) history) .session)
+      → eventWords (wordsAfter (fresh customers securities) history) b ≡ wordsAfter (fresh customers securities) history
+  same-session history = sessions.same-session (wordsAfter (fresh customers securities) history)
+
+  -- "A cancel marks an open limit row cancelled at the present clock"
+  pub cancel-marks : (history : List (List ℕ)) (b : List ℕ) (k : ℕ) (x : Cancel) → eventIn b ≡ event.Cancel k x
+      → ((n : ℕ) → eventAnswer (wordsAfter (fresh customers securities) history) b ≡ answer.Refused n → ⊥)
+      → (r : Row) → StandsIn r (deskAt (wordsAfter (fresh customers securities) history) k .rows)
+      → r .mark ≡ openMark → r .number ≡ x .number → r .«order_type» ≡ limit
+      → StandsIn (cancelledAt (headerOf (wordsAfter (fresh customers securities) history) .clock) r) (deskAt (eventWords (wordsAfter (fresh customers securities) history) b) k .rows)
+  cancel-marks history = minute.cancel-marks (wordsAfter (fresh customers securities) history) (well-formed history)
+
+  -- "first removes that customer's rows cancelled more than 60,000 ms ago", and nothing else removes a cancelled row: one cancelled at time t stands in its desk,
+  -- unchanged, after any events while the clock is at most t + 60,000
+  pub stays-a-minute : (k : ℕ) → k < customers → (history : List (List ℕ)) (r : Row) → r .mark ≡ cancelledMark
+      → StandsIn r (deskAt (wordsAfter (fresh customers securities) history) k .rows)
+      → (later : List (List ℕ)) → headerOf (wordsAfter (wordsAfter (fresh customers securities) history) later) .clock ≤ r .«cancel_time» + 60_000
+      → StandsIn r (deskAt (wordsAfter (wordsAfter (fresh customers securities) history) later) k .rows)
+  stays-a-minute k below history r mark = minute.left-in-minute k below r mark (wordsAfter (fresh customers securities) history) (well-formed history)
+
+  -- "removes all ATO and ATC rows", "ATO outside 1; ATC outside 4": after every history such a row is there only in the session that it was entered in
+  pub in-its-session : (k : ℕ) → k < customers → (history : List (List ℕ)) (r : Row) → StandsIn r (deskAt (wordsAfter (fresh customers securities) history) k .rows)
+      → InItsSession (headerOf (wordsAfter (fresh customers securities) history) .session) r
+  in-its-session k below =
+      auctionRows.in-its-session k below (fresh customers securities) (fresh-good customers securities fit) (fresh-desk customers securities k below)
 
   -- "Kinds 5 to 7 belong to the customer they name; 1 to 4 .. are market events. An event that meets condition 2 or 3 below, or one with a customer of C or
   -- more, belongs to nobody."

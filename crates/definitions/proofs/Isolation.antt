@@ -82,7 +82,7 @@ module _ {customers securities : ℕ} (w : List ℕ) (good : Good customers secu
       ap₂ (λ (h : Header) (s : Security). viewWith h s (deskAt w k)) header-same (security-same (numberOf (securityNamed e)) (named-there (securityNamed e) (parts .1)))
       ∙ ap (λ (j : ℕ). viewWith (headerOf w) (securityAt w (numberOf (securityNamed e))) (deskAt w j)) (sym own)
 
-  abbrev Fed : Event → Type 0
+  abbrev pub Fed : Event → Type 0
   Fed e = fedTo k (ownerNamed customers (customerNamed e)) ≡ true
 
   abbrev metAlone : Event → View
@@ -168,7 +168,7 @@ module _ {customers securities : ℕ} (w : List ℕ) (good : Good customers secu
       go false = ap₂ (loneDone answer.Ok) market-same desk-same
 
   -- an event that meets no condition does in the lone run what it does in the gate
-  same-perform : (e : Event) → Fed e → Passed w e → lonePerform (loneOf w k) e ≡ shown (perform w e)
+  pub same-perform : (e : Event) → Fed e → Passed w e → lonePerform (loneOf w k) e ≡ shown (perform w e)
   unfolding lonePerform perform
   same-perform (event.Clock t) fed p =
       ap₂ (loneDone answer.Ok) (sym (words.market-put w (good .sized) 2 (lit≤ tt) (lit< tt) t)) (sym (words.desk-put w (good .sized) 2 (lit≤ tt) (lit< tt) t k))
@@ -231,7 +231,7 @@ module _ {customers securities : ℕ} (w : List ℕ) (good : Good customers secu
   other-rows : (j : ℕ) → length (deskAt w j .rows) ≡ deskRows
   other-rows j = state.length-desk-rows w (good .sized) j
 
-  other-perform : (e : Event) → fedTo k (ownerNamed customers (customerNamed e)) ≡ false → Passed w e → loneOf (wordsOf w (perform w e)) k ≡ loneOf w k
+  pub other-perform : (e : Event) → fedTo k (ownerNamed customers (customerNamed e)) ≡ false → Passed w e → loneOf (wordsOf w (perform w e)) k ≡ loneOf w k
   unfolding perform
   other-perform (event.Clock t) f p = absurd (true≢false f)
   other-perform (event.Session s) f p = absurd (true≢false f)

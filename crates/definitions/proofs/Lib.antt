@@ -26,6 +26,13 @@ pub mod Numbers
 -- to whom an event belongs, and the verdict both ways
 pub mod Ownership
 pub mod Verdicts
+-- the paper's sentences about all histories
+pub mod Counters
+pub mod SessionChange
+pub mod Performed
+pub mod Standing
+pub mod Minute
+pub mod AuctionRows
 -- the three demands
 pub mod Demands
 -- the paper's cases

@@ -58,7 +58,7 @@ module _ {A : Type 0} where
     unfolding count
     length-keep xs = refl
 
-    count-none : count p [] ≡ 0
+    pub count-none : count p [] ≡ 0
     unfolding count keep
     count-none = refl
 

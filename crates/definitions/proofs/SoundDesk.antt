@@ -2,7 +2,7 @@
 -- Assumes nothing.
 use mathlib.Core.Bool.{Bool, true, false, cond, _&&_, _||_, not, true≢false}
 use mathlib.Core.List.{List, [], _∷_, _++_, map}
-use mathlib.Core.Path.{_≡_, refl, sym, subst, _∙_}
+use mathlib.Core.Path.{_≡_, refl, ap, sym, subst, _∙_}
 use Prim.Native.Nat.{ℕ, zero, suc, _-_, _%_, _≤_, _<_}
 use native.Mathlib.Omega.{arith}
 use lib.Dec.{leb, ltb, eqb}
@@ -36,15 +36,16 @@ length-added clock o d =
     let rows = edited (expiredRow clock) (d .rows) in
     length-set rows (count marked rows) (rowOfOrder o) ∙ length-edited (expiredRow clock) (d .rows)
 
+-- a counter raised leaves the rows
+pub rows-counted : (t : Counter) (x : Desk) → countedAs t x .rows ≡ x .rows
+rows-counted counts.Accepted x = refl
+rows-counted counts.Warned x = refl
+rows-counted counts.Rejected x = refl
+
 pub length-ordered : (v : Verdict) (clock : ℕ) (o : Order) (d : Desk) → length (ordered v clock o d .rows) ≡ length (d .rows)
 unfolding ordered counted
-length-ordered v clock o d = same (counterOf v) (cond (takesRow v o) (added clock o d) d) ∙ go (takesRow v o)
+length-ordered v clock o d = ap length (rows-counted (counterOf v) (cond (takesRow v o) (added clock o d) d)) ∙ go (takesRow v o)
   where
-    same : (t : Counter) (x : Desk) → length (countedAs t x .rows) ≡ length (x .rows)
-    same counts.Accepted x = refl
-    same counts.Warned x = refl
-    same counts.Rejected x = refl
-
     go : (t : Bool) → length (cond t (added clock o d) d .rows) ≡ length (d .rows)
     go true = length-added clock o d
     go false = refl
@@ -122,15 +123,15 @@ below-mp n most other =
     let differs : ¬ (n ≡ mp) = eqb-false n mp other in
     omega (arith, ltb-false mp n most)
 
--- a verdict that is no reject says that rule V does not apply
-no-rule-v : (v : View) (o : Order) → isRejected (counterOf (verdictOf v o)) ≡ false → ruleV (v .market) o ≡ false
+-- a verdict that is no reject says that rules S and V do not apply
+pub no-rules : (v : View) (o : Order) → isRejected (counterOf (verdictOf v o)) ≡ false → (ruleS (v .market) o ≡ false) × (ruleV (v .market) o ≡ false)
 unfolding verdictOf
-no-rule-v v o e = go (ruleS (v .market) o) (ruleV (v .market) o) _ e
+no-rules v o e = go (ruleS (v .market) o) (ruleV (v .market) o) _ e
   where
-    go : (a b : Bool) (rest : Verdict) → isRejected (counterOf (cond a verdict.RejectS (cond b verdict.RejectV rest))) ≡ false → b ≡ false
+    go : (a b : Bool) (rest : Verdict) → isRejected (counterOf (cond a verdict.RejectS (cond b verdict.RejectV rest))) ≡ false → (a ≡ false) × (b ≡ false)
     go true b rest k = absurd (true≢false k)
     go false true rest k = absurd (true≢false k)
-    go false false rest k = refl
+    go false false rest k = (refl, refl)
 
 -- what the conditions 4 to 6 and rule V leave of an order, with a name for each part
 record Fits (securities : ℕ) (o : Order) : Type 0 where
@@ -251,7 +252,7 @@ pub sound-ordered : (securities : ℕ) (m : MarketView) (d : Desk) (o : Order) �
     → soundDesk securities (m .clock) (ordered (verdictOf (record { market = m; desk = d }) o) (m .clock) o d) ≡ true
 unfolding ordered counted added
 sound-ordered securities m d o size e n c p free full =
-    true-desk securities (m .clock) (ordered v (m .clock) o d) (counted-rows (counterOf v) (cond (takesRow v o) (added (m .clock) o d) d) (go (takesRow v o) refl))
+    true-desk securities (m .clock) (ordered v (m .clock) o d) (rw (rows-counted (counterOf v) (cond (takesRow v o) (added (m .clock) o d) d)) (go (takesRow v o) refl))
   where
     v : Verdict
     v = verdictOf (record { market = m; desk = d }) o
@@ -259,15 +260,10 @@ sound-ordered securities m d o size e n c p free full =
     sound : SoundRows securities (m .clock) (d .rows)
     sound = desk-true securities (m .clock) d e
 
-    counted-rows : (t : Counter) (x : Desk) → SoundRows securities (m .clock) (x .rows) → SoundRows securities (m .clock) (countedAs t x .rows)
-    counted-rows counts.Accepted x h = h
-    counted-rows counts.Warned x h = h
-    counted-rows counts.Rejected x h = h
-
     new-row : takesRow v o ≡ true → soundRow securities (m .clock) (rowOfOrder o) ≡ true
     new-row takes =
         let taken = and-parts (not (isRejected (counterOf v))) (not (eqb (o .«order_type») mp)) takes in
-        let rule = no-rule-v (record { market = m; desk = d }) o (not-true (isRejected (counterOf v)) (taken .0)) in
+        let rule = no-rules (record { market = m; desk = d }) o (not-true (isRejected (counterOf v)) (taken .0)) .1 in
         order-row securities (m .clock) o (order-fits securities m o n c p rule) (not-true (eqb (o .«order_type») mp) (taken .1))
 
     go : (t : Bool) → takesRow v o ≡ t → SoundRows securities (m .clock) (cond t (added (m .clock) o d) d .rows)

@@ -13,7 +13,7 @@ use Rattle.definitions.specs.Codes.{freeMark, openMark, cancelledMark, f
 use Rattle.definitions.specs.Sound.{marked, allZero, pricedAs, openOrCancelled, soundMarked, soundRow, numbered}
 use Rattle.definitions.specs.Desks.{freeRow, cancelledInMinute, isOpen, openOrInMinute, openWith, expiredRow, sessionRow, markedCancelled, cancelledRow, withVolume, matchedRow, inMinute}
 use Rattle.definitions.specs.Refusals.{holdsNumber}
-use Rattle.definitions.proofs.Tests.{never, and-parts, and-whole, and-same, or-first, or-second, or-cases, joined-parts, joined-whole}
+use Rattle.definitions.proofs.Tests.{never, either, and-parts, and-whole, and-same, or-first, or-second, or-cases, joined-parts, joined-whole}
 use Rattle.definitions.proofs.Rows.{KeepsNumbers}
 use Rattle.definitions.specs.Lists.{all}
 use Rattle.definitions.specs.State.{rowWords}
@@ -117,6 +117,12 @@ module _ (clock : ℕ) (r : Row) where
   cancelled-state : Cancelled clock r → openOrCancelled clock r ≡ true
   cancelled-state c = or-second whenOpen (and-whole (and-whole (c .mark) (c .time)) (c .«order_type»))
 
+-- "a cancelled row is a limit"
+pub cancelled-limit : (S clock : ℕ) (r : Row) → soundRow S clock r ≡ true → r .mark ≡ cancelledMark → r .«order_type» ≡ limit
+cancelled-limit S clock r e m =
+    ⊎-elim (λ o. absurd (omega (arith, eqb-true (r .mark) openMark (o .mark)))) (λ c. eqb-true (r .«order_type») limit (c .«order_type»))
+    (state-cases clock r (row-marked S clock r e (rw m) .state))
+
 -- a cancel time that is at most the clock is at most a later clock
 later-state : (clock later : ℕ) (r : Row) → clock ≤ later → openOrCancelled clock r ≡ true → openOrCancelled later r ≡ true
 later-state clock later r h e =
@@ -145,13 +151,23 @@ later-row S clock later h r e =
     }))
     (row-cases S clock r e)
 
--- what holds of both rows that a test chooses from, each under its outcome
-either : (P : Row → Type 0) (t : Bool) (a b : Row) → (t ≡ true → P a) → (t ≡ false → P b) → P (cond t a b)
-either P true a b p q = p refl
-either P false a b p q = q refl
-
 open-marked : (number : ℕ) (r : Row) → openWith number r ≡ true → marked r ≡ true
 open-marked number r e = rw (eqb-true (r .mark) openMark (and-parts (isOpen r) (eqb (r .number) number) e .0))
+
+-- what holds of a free row, of the row itself and of what a change makes of it holds of the changed row. A session change leaves no row of ATO and ATC.
+pub session-frees : (P : Row → Type 0) (r : Row) → P freeRow → (isAuction (r .«order_type») ≡ false → P r) → P (sessionRow r)
+session-frees P r free left = either P _ freeRow r (λ _. free) left
+
+pub expired-frees : (P : Row → Type 0) (clock : ℕ) (r : Row) → P freeRow → P r → P (expiredRow clock r)
+expired-frees P clock r free left = either P (eqb (r .mark) cancelledMark && not (cancelledInMinute clock r)) freeRow r (λ _. free) (λ _. left)
+
+pub cancelled-frees : (P : Row → Type 0) (number clock : ℕ) (r : Row) → P freeRow → P r
+    → (openWith number r ≡ true → eqb (r .«order_type») limit ≡ true → P (markedCancelled clock r)) → P (cancelledRow number clock r)
+cancelled-frees P number clock r free left marks = either P (openWith number r) _ r (λ opened. either P _ _ freeRow (marks opened) (λ _. free)) (λ _. left)
+
+pub matched-frees : (P : Row → Type 0) (number volume : ℕ) (r : Row) → P freeRow → P r
+    → (openWith number r ≡ true → leb (r .volume) volume ≡ false → P (withVolume (r .volume - volume) r)) → P (matchedRow number volume r)
+matched-frees P number volume r free left lowers = either P (openWith number r) _ r (λ opened. either P _ freeRow _ (λ _. free) (lowers opened)) (λ _. left)
 
 -- the changes leave a row sound
 module _ (S clock : ℕ) where
@@ -159,18 +175,17 @@ module _ (S clock : ℕ) where
   Sound x = soundRow S clock x ≡ true
 
   pub session-sound : (r : Row) → soundRow S clock r ≡ true → soundRow S clock (sessionRow r) ≡ true
-  session-sound r e = either Sound (isAuction (r .«order_type»)) freeRow r (λ _. free-row S clock) (λ _. e)
+  session-sound r e = session-frees Sound r (free-row S clock) (λ _. e)
 
   pub expired-sound : (r : Row) → soundRow S clock r ≡ true → soundRow S clock (expiredRow clock r) ≡ true
-  expired-sound r e =
-      either Sound (eqb (r .mark) cancelledMark && not (cancelledInMinute clock r)) freeRow r (λ _. free-row S clock) (λ _. e)
+  expired-sound r e = expired-frees Sound clock r (free-row S clock) e
 
   markedCancelled-sound : (r : Row) → SoundMarked S clock r → eqb (r .«order_type») limit ≡ true → soundRow S clock (markedCancelled clock r) ≡ true
   markedCancelled-sound r h l =
       true-marked S clock
       (markedCancelled clock r)
       (record {
-        state = and-whole (le-leb clock clock (omega arith)) l;
+        state = and-whole (le-leb (markedCancelled clock r .«cancel_time») clock (omega arith)) l;
         number = h .number;
         security = h .security;
         board = h .board;
@@ -183,12 +198,7 @@ module _ (S clock : ℕ) where
 
   pub cancelled-sound : (number : ℕ) (r : Row) → soundRow S clock r ≡ true → soundRow S clock (cancelledRow number clock r) ≡ true
   cancelled-sound number r e =
-      either Sound (openWith number r) (cond (eqb (r .«order_type») limit) (markedCancelled clock r) freeRow) r
-      (λ opened.
-      either Sound (eqb (r .«order_type») limit) (markedCancelled clock r) freeRow
-      (markedCancelled-sound r (row-marked S clock r e (open-marked number r opened)))
-      (λ _. free-row S clock))
-      (λ _. e)
+      cancelled-frees Sound number clock r (free-row S clock) e (λ opened. markedCancelled-sound r (row-marked S clock r e (open-marked number r opened)))
 
   withVolume-sound : (volume : ℕ) (r : Row) → SoundMarked S clock r → leb (r .volume) volume ≡ false
       → soundRow S clock (withVolume (r .volume - volume) r) ≡ true
@@ -209,12 +219,7 @@ module _ (S clock : ℕ) where
 
   pub matched-sound : (number volume : ℕ) (r : Row) → soundRow S clock r ≡ true → soundRow S clock (matchedRow number volume r) ≡ true
   matched-sound number volume r e =
-      either Sound (openWith number r) (cond (leb (r .volume) volume) freeRow (withVolume (r .volume - volume) r)) r
-      (λ opened.
-      either Sound (leb (r .volume) volume) freeRow (withVolume (r .volume - volume) r)
-      (λ _. free-row S clock)
-      (withVolume-sound volume r (row-marked S clock r e (open-marked number r opened))))
-      (λ _. e)
+      matched-frees Sound number volume r (free-row S clock) e (λ opened. withVolume-sound volume r (row-marked S clock r e (open-marked number r opened)))
 
 -- they mark none anew, and a row that stays keeps its number
 abbrev Kept : Row → Row → Type 0
@@ -227,25 +232,16 @@ stays : (r : Row) → Kept r r
 stays r e = (e, refl)
 
 pub session-kept : KeepsNumbers sessionRow
-session-kept r = either (Kept r) (isAuction (r .«order_type»)) freeRow r (λ _. gone r) (λ _. stays r)
+session-kept r = session-frees (Kept r) r (gone r) (λ _. stays r)
 
 pub expired-kept : (clock : ℕ) → KeepsNumbers (expiredRow clock)
-expired-kept clock r = either (Kept r) (eqb (r .mark) cancelledMark && not (cancelledInMinute clock r)) freeRow r (λ _. gone r) (λ _. stays r)
+expired-kept clock r = expired-frees (Kept r) clock r (gone r) (stays r)
 
 pub cancelled-kept : (number clock : ℕ) → KeepsNumbers (cancelledRow number clock)
-cancelled-kept number clock r =
-    either (Kept r) (openWith number r) (cond (eqb (r .«order_type») limit) (markedCancelled clock r) freeRow) r
-    (λ opened.
-    either (Kept r) (eqb (r .«order_type») limit) (markedCancelled clock r) freeRow
-    (λ _ _. (open-marked number r opened, refl))
-    (λ _. gone r))
-    (λ _. stays r)
+cancelled-kept number clock r = cancelled-frees (Kept r) number clock r (gone r) (stays r) (λ opened _ _. (open-marked number r opened, refl))
 
 pub matched-kept : (number volume : ℕ) → KeepsNumbers (matchedRow number volume)
-matched-kept number volume r =
-    either (Kept r) (openWith number r) (cond (leb (r .volume) volume) freeRow (withVolume (r .volume - volume) r)) r
-    (λ _. either (Kept r) (leb (r .volume) volume) freeRow (withVolume (r .volume - volume) r) (λ _. gone r) (λ _ m. (m, refl)))
-    (λ _. stays r)
+matched-kept number volume r = matched-frees (Kept r) number volume r (gone r) (stays r) (λ _ _ m. (m, refl))
 
 -- the three marks that a sound row may have
 mark-cases : (S clock : ℕ) (r : Row) → soundRow S clock r ≡ true

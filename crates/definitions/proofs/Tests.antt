@@ -1,6 +1,6 @@
 -- Tests: what a call tells of one; of tests joined by `&&` and `||`, what their value tells of each part, and the way back.
 -- Assumes nothing.
-use mathlib.Core.Bool.{Bool, true, false, _&&_, _||_, not, true≢false, false≢true}
+use mathlib.Core.Bool.{Bool, true, false, cond, _&&_, _||_, not, true≢false, false≢true}
 use mathlib.Core.List.{List, [], _∷_}
 use mathlib.Core.Logic.{_⊎_, inl, inr}
 use mathlib.Core.Path.{_≡_, refl, sym, _∙_}
@@ -8,6 +8,11 @@ use borrow.Author.Tests.{not-true, not-false}
 
 pub never : {A : Type 0} {t : Bool} → t ≡ true → t ≡ false → A
 never yes-t no-t = absurd (true≢false (sym yes-t ∙ no-t))
+
+-- what holds of both that a test chooses from, each under its outcome
+pub either : {A : Type 0} (P : A → Type 0) (t : Bool) (a b : A) → (t ≡ true → P a) → (t ≡ false → P b) → P (cond t a b)
+either P true a b p q = p refl
+either P false a b p q = q refl
 
 -- what a call ensures of a test, and what an `if` found of the test
 pub known : {t u b : Bool} → t ≡ u → t ≡ b → u ≡ b
