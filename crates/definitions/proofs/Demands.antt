@@ -65,8 +65,11 @@ refused-by-condition w b n e =
 pub condition-refuses : (w b : List ℕ) (n : ℕ) → FoundFirst n (conditions w b) → (n ≡ 0 → ⊥) → eventAnswer w b ≡ answer.Refused n
 condition-refuses w b n found some = refusals.refuses w b n (refusals.first-found n (conditions w b) found) some
 
+abbrev pub Unrefused : List ℕ → List ℕ → Type 0
+Unrefused w b = (n : ℕ) → eventAnswer w b ≡ answer.Refused n → ⊥
+
 -- so that an event that is not refused meets no condition of its table
-pub unrefused-meets-none : (w b : List ℕ) → ((n : ℕ) → eventAnswer w b ≡ answer.Refused n → ⊥) → all (λ (c : ℕ × Bool). not (c .1)) (conditions w b) ≡ true
+pub unrefused-meets-none : (w b : List ℕ) → Unrefused w b → all (λ (c : ℕ × Bool). not (c .1)) (conditions w b) ≡ true
 unrefused-meets-none w b answered = refusals.none-met (conditions w b) (refusals.numbered-conditions w b) (refusals.unrefused w b answered)
 
 same-verdict : (x y : Verdict) → _≡_ {A = Answer} (answer.Verdict x) (answer.Verdict y) → x ≡ y
@@ -75,22 +78,26 @@ same-verdict x y e = cc
 -- DEMAND 2, of the definitions: "From a fresh state, the verdict of every order not refused is the one that the exchange's 2011 screening standard, as
 -- condensed in document 01, gives for the events so far .. Rows and counters follow the same definition."
 module _ (customers securities : ℕ) (fit : sizesFit customers securities ≡ true) where
+  -- the words after a history from a fresh state
+  abbrev pub after : List (List ℕ) → List ℕ
+  after history = wordsAfter (fresh customers securities) history
+
   -- after every history the state is well formed: sizes, clock and session fit and every record is sound
-  pub well-formed : (history : List (List ℕ)) → Good customers securities (wordsAfter (fresh customers securities) history)
+  pub well-formed : (history : List (List ℕ)) → Good customers securities (after history)
   well-formed history = good-after (fresh customers securities) (fresh-good customers securities fit) history
 
   -- so that conditions 1 and 8 never arise in a history: every event that names what is there reads sound records
-  pub state-fits : (history : List (List ℕ)) → stateFits (wordsAfter (fresh customers securities) history) ≡ true
-  state-fits history = fits (wordsAfter (fresh customers securities) history) (well-formed history)
+  pub state-fits : (history : List (List ℕ)) → stateFits (after history) ≡ true
+  state-fits history = fits (after history) (well-formed history)
 
-  pub records-sound : (history : List (List ℕ)) (e : Event) → badName (headerOf (wordsAfter (fresh customers securities) history)) e ≡ false
-      → recordsSound (wordsAfter (fresh customers securities) history) e ≡ true
-  records-sound history = wellFormed.records-sound (wordsAfter (fresh customers securities) history) (well-formed history)
+  pub records-sound : (history : List (List ℕ)) (e : Event) → badName (headerOf (after history)) e ≡ false
+      → recordsSound (after history) e ≡ true
+  records-sound history = wellFormed.records-sound (after history) (well-formed history)
 
   -- after every history an event that is not refused does what `perform` says of its kind
-  pub performs : (history : List (List ℕ)) (b : List ℕ) → ((n : ℕ) → eventAnswer (wordsAfter (fresh customers securities) history) b ≡ answer.Refused n → ⊥)
-      → outcome (wordsAfter (fresh customers securities) history) b ≡ perform (wordsAfter (fresh customers securities) history) (eventIn b)
-  performs history b answered = refusals.unrefused-performs (wordsAfter (fresh customers securities) history) b answered
+  pub performs : (history : List (List ℕ)) (b : List ℕ) → Unrefused (after history) b
+      → outcome (after history) b ≡ perform (after history) (eventIn b)
+  performs history b answered = refusals.unrefused-performs (after history) b answered
 
   -- and an order gets the first verdict that applies to the session, the clock, its security, its customer's desk and itself; its desk's counters and rows
   -- follow that verdict, and no other word changes
@@ -99,27 +106,27 @@ module _ (customers securities : ℕ) (fit : sizesFit customers securities ≡ t
     pub words : eventWords w b ≡ putDesk w k (orderedAt w k o)
 
   pub judged : (history : List (List ℕ)) (b : List ℕ) (k : ℕ) (o : Order) → eventIn b ≡ event.Order k o
-      → ((n : ℕ) → eventAnswer (wordsAfter (fresh customers securities) history) b ≡ answer.Refused n → ⊥)
-      → Judged (wordsAfter (fresh customers securities) history) b k o
+      → Unrefused (after history) b
+      → Judged (after history) b k o
   unfolding perform
   judged history b k o e answered =
-      let w = wordsAfter (fresh customers securities) history in
+      let w = after history in
       let does : outcome w b ≡ perform w (event.Order k o) = performs history b answered ∙ ap (perform w) e in
       record { verdict = ap answerOf does; words = ap (wordsOf w) does }
 
   -- "rejected or warned where the standard says so, and not otherwise": an order that is not refused gets a verdict exactly where its rule applies and none above it
   pub verdict-both-ways : (history : List (List ℕ)) (b : List ℕ) (k : ℕ) (o : Order) → eventIn b ≡ event.Order k o
-      → ((n : ℕ) → eventAnswer (wordsAfter (fresh customers securities) history) b ≡ answer.Refused n → ⊥)
-      → (x : Verdict) → (eventAnswer (wordsAfter (fresh customers securities) history) b ≡ answer.Verdict x) ↔ AppliesFirst (viewAt (wordsAfter (fresh customers securities) history) (o .security) k) o x
+      → Unrefused (after history) b
+      → (x : Verdict) → (eventAnswer (after history) b ≡ answer.Verdict x) ↔ AppliesFirst (viewAt (after history) (o .security) k) o x
   verdict-both-ways history b k o e answered x =
       let given = judged history b k o e answered .verdict in
-      let ways = both-ways (viewAt (wordsAfter (fresh customers securities) history) (o .security) k) o x in
+      let ways = both-ways (viewAt (after history) (o .security) k) o x in
       (λ a. ways .0 (same-verdict _ x (sym given ∙ a)), λ first. given ∙ ap answer.Verdict (ways .1 first))
 
   -- "Each verdict adds 1 to its counter, except where refusal 12 follows"; "each stays at 4,294,967,295 once there": after every history each counter of a
   -- customer is the number of the answers of its kind to that customer's events, up to 4,294,967,295
   pub counters : (k : ℕ) → k < customers → (history : List (List ℕ)) (c : Counter)
-      → counterIn c (deskAt (wordsAfter (fresh customers securities) history) k)
+      → counterIn c (deskAt (after history) k)
       ≡ upToMax (count (countsAnswer c) (answersTo (belongsTo customers k) (fresh customers securities) history))
   counters k below history c =
       counts-fresh c k below (fresh customers securities) (fresh-good customers securities fit) (fresh-desk customers securities k below) history
@@ -127,35 +134,35 @@ module _ (customers securities : ℕ) (fit : sizesFit customers securities ≡ t
   -- "A session that differs from the present one removes all ATO and ATC rows and makes every projected price absent": limit rows and counters stay, and so does
   -- every other word of a security and of the header
   pub another-session : (history : List (List ℕ)) (b : List ℕ) (s : ℕ) → eventIn b ≡ event.Session s
-      → ((n : ℕ) → eventAnswer (wordsAfter (fresh customers securities) history) b ≡ answer.Refused n → ⊥)
-      → (s ≡ headerOf (wordsAfter (fresh customers securities) history) .session → ⊥)
-      → SessionChanged customers securities s (wordsAfter (fresh customers securities) history) (eventWords (wordsAfter (fresh customers securities) history) b)
-  another-session history b s = sessions.another-session (wordsAfter (fresh customers securities) history) (well-formed history) s b
+      → Unrefused (after history) b
+      → (s ≡ headerOf (after history) .session → ⊥)
+      → SessionChanged customers securities s (after history) (eventWords (after history) b)
+  another-session history b s = sessions.another-session (after history) (well-formed history) s b
 
   -- "the same session changes nothing"
-  pub same-session : (history : List (List ℕ)) (b : List ℕ) → eventIn b ≡ event.Session (headerOf (wordsAfter (fresh customers securities) history) .session)
-      → eventWords (wordsAfter (fresh customers securities) history) b ≡ wordsAfter (fresh customers securities) history
-  same-session history = sessions.same-session (wordsAfter (fresh customers securities) history)
+  pub same-session : (history : List (List ℕ)) (b : List ℕ) → eventIn b ≡ event.Session (headerOf (after history) .session)
+      → eventWords (after history) b ≡ after history
+  same-session history = sessions.same-session (after history)
 
   -- "A cancel marks an open limit row cancelled at the present clock"
   pub cancel-marks : (history : List (List ℕ)) (b : List ℕ) (k : ℕ) (x : Cancel) → eventIn b ≡ event.Cancel k x
-      → ((n : ℕ) → eventAnswer (wordsAfter (fresh customers securities) history) b ≡ answer.Refused n → ⊥)
-      → (r : Row) → StandsIn r (deskAt (wordsAfter (fresh customers securities) history) k .rows)
+      → Unrefused (after history) b
+      → (r : Row) → StandsIn r (deskAt (after history) k .rows)
       → r .mark ≡ openMark → r .number ≡ x .number → r .«order_type» ≡ limit
-      → StandsIn (cancelledAt (headerOf (wordsAfter (fresh customers securities) history) .clock) r) (deskAt (eventWords (wordsAfter (fresh customers securities) history) b) k .rows)
-  cancel-marks history = minute.cancel-marks (wordsAfter (fresh customers securities) history) (well-formed history)
+      → StandsIn (cancelledAt (headerOf (after history) .clock) r) (deskAt (eventWords (after history) b) k .rows)
+  cancel-marks history = minute.cancel-marks (after history) (well-formed history)
 
   -- "first removes that customer's rows cancelled more than 60,000 ms ago", and nothing else removes a cancelled row: one cancelled at time t stands in its desk,
   -- unchanged, after any events while the clock is at most t + 60,000
   pub stays-a-minute : (k : ℕ) → k < customers → (history : List (List ℕ)) (r : Row) → r .mark ≡ cancelledMark
-      → StandsIn r (deskAt (wordsAfter (fresh customers securities) history) k .rows)
-      → (later : List (List ℕ)) → headerOf (wordsAfter (wordsAfter (fresh customers securities) history) later) .clock ≤ r .«cancel_time» + 60_000
-      → StandsIn r (deskAt (wordsAfter (wordsAfter (fresh customers securities) history) later) k .rows)
-  stays-a-minute k below history r mark = minute.left-in-minute k below r mark (wordsAfter (fresh customers securities) history) (well-formed history)
+      → StandsIn r (deskAt (after history) k .rows)
+      → (later : List (List ℕ)) → headerOf (wordsAfter (after history) later) .clock ≤ r .«cancel_time» + 60_000
+      → StandsIn r (deskAt (wordsAfter (after history) later) k .rows)
+  stays-a-minute k below history r mark = minute.left-in-minute k below r mark (after history) (well-formed history)
 
   -- "removes all ATO and ATC rows", "ATO outside 1; ATC outside 4": after every history such a row is there only in the session that it was entered in
-  pub in-its-session : (k : ℕ) → k < customers → (history : List (List ℕ)) (r : Row) → StandsIn r (deskAt (wordsAfter (fresh customers securities) history) k .rows)
-      → InItsSession (headerOf (wordsAfter (fresh customers securities) history) .session) r
+  pub in-its-session : (k : ℕ) → k < customers → (history : List (List ℕ)) (r : Row) → StandsIn r (deskAt (after history) k .rows)
+      → InItsSession (headerOf (after history) .session) r
   in-its-session k below =
       auctionRows.in-its-session k below (fresh customers securities) (fresh-good customers securities fit) (fresh-desk customers securities k below)
 
@@ -168,8 +175,8 @@ module _ (customers securities : ℕ) (fit : sizesFit customers securities ≡ t
   -- fed these events and nothing of the others"
   pub record Isolated (k : ℕ) (history : List (List ℕ)) : Type 0 where
     pub answers : answersTo (isFed customers k) (fresh customers securities) history ≡ loneAnswers (loneFresh customers securities) (keep (isFed customers k) history)
-    pub market : marketWords (wordsAfter (fresh customers securities) history) ≡ loneAfter (loneFresh customers securities) (keep (isFed customers k) history) .market
-    pub desk : customerWords (wordsAfter (fresh customers securities) history) k ≡ deskWords (loneAfter (loneFresh customers securities) (keep (isFed customers k) history) .desk)
+    pub market : marketWords (after history) ≡ loneAfter (loneFresh customers securities) (keep (isFed customers k) history) .market
+    pub desk : customerWords (after history) k ≡ deskWords (loneAfter (loneFresh customers securities) (keep (isFed customers k) history) .desk)
 
   fresh-lone : (k : ℕ) → k < customers → loneOf (fresh customers securities) k ≡ loneFresh customers securities
   fresh-lone k below i = record { market = fresh-market customers securities i; desk = fresh-desk customers securities k below i }
@@ -179,12 +186,12 @@ module _ (customers securities : ℕ) (fit : sizesFit customers securities ≡ t
       let w = fresh customers securities in
       let good = fresh-good customers securities fit in
       let start = ap (λ (l : Lone). loneAfter l (keep (isFed customers k) history)) (fresh-lone k below) in
-      let after = sym (same-after k below w good history) ∙ start in
+      let same = sym (same-after k below w good history) ∙ start in
       record {
         answers =
             sym (same-answers k below w good history) ∙ ap (λ (l : Lone). loneAnswers l (keep (isFed customers k) history)) (fresh-lone k below);
-        market = ap (λ (l : Lone). l .market) after;
-        desk = state.customer-words (wordsAfter w history) (well-formed history .sized) k below ∙ ap (λ (l : Lone). deskWords (l .desk)) after;
+        market = ap (λ (l : Lone). l .market) same;
+        desk = state.customer-words (after history) (well-formed history .sized) k below ∙ ap (λ (l : Lone). deskWords (l .desk)) same;
       }
 
   -- "Any two histories from fresh states of one size that hold the same market events and the same events of one customer, in the same order among
@@ -192,8 +199,8 @@ module _ (customers securities : ℕ) (fit : sizesFit customers securities ≡ t
   -- however the other customers' events, and those that belong to nobody, are changed, added, dropped or moved"
   pub record Alike (k : ℕ) (one other : List (List ℕ)) : Type 0 where
     pub answers : answersTo (isFed customers k) (fresh customers securities) one ≡ answersTo (isFed customers k) (fresh customers securities) other
-    pub market : marketWords (wordsAfter (fresh customers securities) one) ≡ marketWords (wordsAfter (fresh customers securities) other)
-    pub desk : customerWords (wordsAfter (fresh customers securities) one) k ≡ customerWords (wordsAfter (fresh customers securities) other) k
+    pub market : marketWords (after one) ≡ marketWords (after other)
+    pub desk : customerWords (after one) k ≡ customerWords (after other) k
 
   pub alike : (k : ℕ) → k < customers → (one other : List (List ℕ)) → keep (isFed customers k) one ≡ keep (isFed customers k) other → Alike k one other
   alike k below one other same =
