@@ -69,8 +69,10 @@ fn format_order(order: &Order) -> String {
     )
 }
 
-/// Hours go past 23 where the gate would turn the time back.
-struct Time(u32);
+/// Milliseconds since midnight as `09:55:00.000`. Hours go past 23 where the
+/// gate would turn the time back.
+#[derive(Clone, Copy, Debug)]
+pub struct Time(pub u32);
 
 impl fmt::Display for Time {
     fn fmt(&self, f: &mut fmt::Formatter<'_>) -> fmt::Result {
@@ -81,7 +83,9 @@ impl fmt::Display for Time {
     }
 }
 
-struct Price(u32);
+/// Satang as baht with two decimals; 0 as `-`.
+#[derive(Clone, Copy, Debug)]
+pub struct Price(pub u32);
 
 impl fmt::Display for Price {
     fn fmt(&self, f: &mut fmt::Formatter<'_>) -> fmt::Result {

@@ -27,13 +27,7 @@ fn main() -> ExitCode {
 /// Nothing is written where a line is wrong: half a day would pass for a whole.
 fn encode() -> Result<(), Box<dyn Error>> {
     let bytes = read_input()?;
-    let text = str::from_utf8(&bytes).map_err(|error| {
-        let valid = &bytes[..error.valid_up_to()];
-        events::Wrong {
-            line: 1 + valid.iter().filter(|&&byte| byte == b'\n').count(),
-            reason: "not UTF-8 text".into(),
-        }
-    })?;
+    let text = events::text(&bytes)?;
     io::stdout().write_all(&events::encode(text)?)?;
     Ok(())
 }
@@ -42,7 +36,7 @@ fn encode() -> Result<(), Box<dyn Error>> {
 fn decode() -> Result<(), Box<dyn Error>> {
     let bytes = read_input()?;
     let mut out = BufWriter::new(io::stdout().lock());
-    for line in events::Lines::new(&bytes) {
+    for line in events::lines(&bytes) {
         match line {
             Ok(line) => writeln!(out, "{line}")?,
             Err(broken) => {

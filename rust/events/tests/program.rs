@@ -39,7 +39,7 @@ fn errors() {
         &run(&["encode"], text),
         1,
         b"",
-        "line 3: unknown word \"nr\"\n",
+        "line 3: \"nr\": expected no\n",
     );
     check(
         &run(&["encode"], b"#\n# \xff\n"),
