@@ -12,7 +12,7 @@ pub fn format(event: &Event) -> String {
         Event::Clock { time } => format!("clock {}", Time(*time)),
         Event::Session { session } => match SESSIONS.word(*session) {
             Some(word) => format!("session {word}"),
-            None => format!("session {session}"),
+            None => Code(&SESSIONS, *session).to_string(),
         },
         Event::Setup(setup) => format_setup(setup),
         Event::Prices(prices) => format_prices(prices),
@@ -96,7 +96,9 @@ impl fmt::Display for Price {
     }
 }
 
-struct Code(&'static Codes, u8);
+/// The word of a code; the list's name and a number where it has none.
+#[derive(Clone, Copy, Debug)]
+pub struct Code(pub &'static Codes, pub u8);
 
 impl fmt::Display for Code {
     fn fmt(&self, f: &mut fmt::Formatter<'_>) -> fmt::Result {
