@@ -103,13 +103,15 @@ fn broken_events() {
     );
 }
 
+/// It does not move the answers of others far to the right either.
 #[test]
 fn a_long_tail_is_cut() {
-    let listing = day(&[], &[0; 5_000]);
-    let line = listing.lines().next().unwrap();
-    assert!(line.starts_with("bytes 00 00 00 "));
-    assert!(line.ends_with(" ..  refused 3   unknown kind of event"));
-    assert!(line.len() < 200);
+    let listing = day(&[], &[&[2, 2], &[0; 5_000][..]].concat());
+    let lines: Vec<&str> = listing.lines().collect();
+    assert_eq!(lines[0].find("ok"), Some(80 + 2));
+    assert!(lines[1].starts_with("bytes 00 00 00 "));
+    assert!(lines[1].ends_with(" ..  refused 3   unknown kind of event"));
+    assert!(lines[1].len() < 200);
 }
 
 /// As when `head` has its ten lines.
