@@ -2,6 +2,7 @@
 
 use std::error::Error;
 use std::fmt;
+use std::iter;
 
 use second::event;
 
@@ -23,6 +24,17 @@ impl fmt::Display for Wrong {
 }
 
 impl Error for Wrong {}
+
+/// The text that these bytes are.
+pub fn text(bytes: &[u8]) -> Result<&str, Wrong> {
+    str::from_utf8(bytes).map_err(|error| {
+        let valid = &bytes[..error.valid_up_to()];
+        Wrong {
+            line: 1 + valid.iter().filter(|&&byte| byte == b'\n').count(),
+            reason: "not UTF-8 text".into(),
+        }
+    })
+}
 
 /// The bytes of all lines, one after another.
 pub fn encode(text: &str) -> Result<Vec<u8>, Wrong> {
@@ -59,7 +71,7 @@ impl Error for Broken {}
 
 /// The text of events that stand one after another, a line for each.
 pub fn decode(bytes: &[u8]) -> Result<String, Broken> {
-    Lines::new(bytes).map(|line| Ok(line? + "\n")).collect()
+    lines(bytes).map(|line| Ok(line? + "\n")).collect()
 }
 
 /// The line of one event. Bytes that are no whole event of a known kind are
@@ -74,43 +86,35 @@ pub fn line(event: &[u8]) -> String {
     }
 }
 
+/// Events that stand one after another, as the gate's own reader takes them:
+/// each as long as its kind says, but an unknown kind, or an event cut short,
+/// takes all bytes that are left.
+pub fn split(bytes: &[u8]) -> impl Iterator<Item = &[u8]> {
+    let mut rest = bytes;
+    iter::from_fn(move || {
+        let kind = *rest.first()?;
+        let length = event::length(kind).unwrap_or(rest.len()).min(rest.len());
+        let (event, after) = rest.split_at(length);
+        rest = after;
+        Some(event)
+    })
+}
+
 /// The lines of events that stand one after another. A broken event is the
 /// last item.
-#[derive(Clone, Debug)]
-pub struct Lines<'a> {
-    bytes: &'a [u8],
-    read: usize,
-}
-
-impl<'a> Lines<'a> {
-    pub fn new(bytes: &'a [u8]) -> Self {
-        Lines { bytes, read: 0 }
-    }
-}
-
-impl Iterator for Lines<'_> {
-    type Item = Result<String, Broken>;
-
-    fn next(&mut self) -> Option<Self::Item> {
-        let byte = self.read;
-        let rest = &self.bytes[byte..];
-        let kind = *rest.first()?;
-        let whole = match event::length(kind) {
-            None => Err(format!("kind {kind} is unknown")),
-            Some(length) => rest.get(..length).ok_or_else(|| {
-                let left = rest.len();
+pub fn lines(bytes: &[u8]) -> impl Iterator<Item = Result<String, Broken>> {
+    let mut read = 0;
+    split(bytes).map(move |event| {
+        let byte = read;
+        read += event.len();
+        let (kind, left) = (event[0], event.len());
+        let reason = match event::length(kind) {
+            Some(length) if length == left => return Ok(line(event)),
+            Some(length) => {
                 format!("an event of kind {kind} takes {length} bytes, and {left} are left")
-            }),
+            }
+            None => format!("kind {kind} is unknown"),
         };
-        Some(match whole {
-            Ok(event) => {
-                self.read += event.len();
-                Ok(line(event))
-            }
-            Err(reason) => {
-                self.read = self.bytes.len();
-                Err(Broken { byte, reason })
-            }
-        })
-    }
+        Err(Broken { byte, reason })
+    })
 }

@@ -12,7 +12,7 @@ pub fn format(event: &Event) -> String {
         Event::Clock { time } => format!("clock {}", Time(*time)),
         Event::Session { session } => match SESSIONS.word(*session) {
             Some(word) => format!("session {word}"),
-            None => format!("session {session}"),
+            None => Code(&SESSIONS, *session).to_string(),
         },
         Event::Setup(setup) => format_setup(setup),
         Event::Prices(prices) => format_prices(prices),
@@ -69,8 +69,10 @@ fn format_order(order: &Order) -> String {
     )
 }
 
-/// Hours go past 23 where the gate would turn the time back.
-struct Time(u32);
+/// Milliseconds since midnight as `09:55:00.000`. Hours go past 23 where the
+/// gate would turn the time back.
+#[derive(Clone, Copy, Debug)]
+pub struct Time(pub u32);
 
 impl fmt::Display for Time {
     fn fmt(&self, f: &mut fmt::Formatter<'_>) -> fmt::Result {
@@ -81,7 +83,9 @@ impl fmt::Display for Time {
     }
 }
 
-struct Price(u32);
+/// Satang as baht with two decimals; 0 as `-`.
+#[derive(Clone, Copy, Debug)]
+pub struct Price(pub u32);
 
 impl fmt::Display for Price {
     fn fmt(&self, f: &mut fmt::Formatter<'_>) -> fmt::Result {
@@ -92,7 +96,9 @@ impl fmt::Display for Price {
     }
 }
 
-struct Code(&'static Codes, u8);
+/// The word of a code; the list's name and a number where it has none.
+#[derive(Clone, Copy, Debug)]
+pub struct Code(pub &'static Codes, pub u8);
 
 impl fmt::Display for Code {
     fn fmt(&self, f: &mut fmt::Formatter<'_>) -> fmt::Result {

@@ -37,11 +37,16 @@
 #![forbid(unsafe_code)]
 
 mod convert;
+mod expected;
 mod format;
+mod line_words;
 mod parse;
 mod values;
-mod words;
+pub mod words;
 
-pub use convert::{Broken, Lines, Wrong, decode, encode, encode_each, line};
+pub use convert::{Broken, Wrong, decode, encode, encode_each, line, lines, split, text};
+pub use expected::{AnyOf, expected};
+pub use format::{Code, Price, Time};
 pub use parse::parse;
 pub use second::event::{Event, Order, Prices, Setup};
+pub use values::{number, satang};

@@ -4,14 +4,10 @@ pub fn is_digits(word: &str) -> bool {
     !word.is_empty() && word.bytes().all(|byte| byte.is_ascii_digit())
 }
 
-pub fn number(word: &str, largest: u32) -> Result<u32, String> {
-    if !is_digits(word) {
-        return Err(format!("{word:?} is no number"));
-    }
-    word.parse()
-        .ok()
-        .filter(|&number: &u32| number <= largest)
-        .ok_or_else(|| format!("{word} is above {largest}"))
+pub fn number(word: &str, largest: u32) -> Option<u32> {
+    // `parse` alone would take a sign.
+    let number = is_digits(word).then(|| word.parse().ok())?;
+    number.filter(|&number: &u32| number <= largest)
 }
 
 /// Two hexadecimal digits.

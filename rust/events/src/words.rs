@@ -1,6 +1,7 @@
 //! The words that stand for codes.
 
 /// The words of one list of codes, in the order of the codes from 0.
+#[derive(Clone, Copy, Debug)]
 pub struct Codes {
     /// Stands before a code that has no word.
     pub name: &'static str,

@@ -1,146 +1,89 @@
 //! What is said to lines and bytes that cannot be read, word for word.
 
-use events::{Lines, decode, encode};
+use events::{decode, encode, lines, text};
+
+/// A line, and what is said of it.
+#[rustfmt::skip]
+const BAD_LINES: &[(&str, &str)] = &[
+    // the first word
+    ("open", r#""open": expected clock, session, setup, prices, order, cancel, match or bytes"#),
+    ("Order 0", r#""Order": expected clock, session, setup, prices, order, cancel, match or bytes"#),
+    // words of a list, and fields by their names
+    ("order 0 no 1 security 0 main buyy limit 50.00 x 100 online", r#""buyy": expected buy or sell"#),
+    ("order 0 no 1 security 0 main BUY", r#""BUY": expected buy or sell"#),
+    ("order 0 no 1 security 0 side 1", r#""side": expected main or foreign"#),
+    ("order 0 no 1 security 0 main buy stop", r#""stop": expected limit, ato, atc or mp"#),
+    ("order 0 no 1 security 0 main buy ato x 5 web", r#""web": expected front, online or dma"#),
+    ("prices 0 1 last 50.00", r#""1": expected main or foreign"#),
+    ("session opened", r#""opened": expected closed, pre-open, open, break or pre-close"#),
+    ("setup 0 lot 100 gratis", r#""gratis": expected free, first-day, close or ipo"#),
+    ("setup 0 lot 100 free two", r#""two": expected free, first-day, close or ipo"#),
+    ("prices 0 main sale 50.00", r#""sale": expected projected, last, bid or offer"#),
+    ("prices 0 main last 1.00 last 1.00", r#""last" stands twice"#),
+    ("setup 0 lot 1 free free", r#""free" stands twice"#),
+    // one word alone
+    ("order 0 number 1", r#""number": expected no"#),
+    ("order 0 no 1 secutiry 0", r#""secutiry": expected security"#),
+    ("setup 0 free lot 100", r#""free": expected lot"#),
+    ("order 0 no 1 security 0 main buy ato 100 online", r#""100": expected x"#),
+    ("order 0 no 1 security 0 main buy mp 50.00 100 online", r#""100": expected x"#),
+    // where the line ends
+    ("clock", "the line ends: expected a time, as 09:55:00.000"),
+    ("session", "the line ends: expected closed, pre-open, open, break or pre-close"),
+    ("setup", "the line ends: expected a security, 0 to 65535"),
+    ("setup 0", "the line ends: expected lot"),
+    ("setup 0 lot", "the line ends: expected a lot, 0 to 255"),
+    ("setup 0 lot 100 close", "the line ends: expected a price in baht, as 50.25"),
+    ("prices 0", "the line ends: expected main or foreign"),
+    ("prices 0 board", "the line ends: expected a number, 0 to 255"),
+    ("prices 0 main last", "the line ends: expected a price in baht, as 50.25"),
+    ("cancel", "the line ends: expected a customer, 0 to 65535"),
+    ("cancel 0", "the line ends: expected no"),
+    ("cancel 0 no", "the line ends: expected an order number, 0 to 4294967295"),
+    ("match 0 no 1", "the line ends: expected x"),
+    ("match 0 no 1 x", "the line ends: expected a volume, 0 to 4294967295"),
+    ("order 0 no 1 security 0 main", "the line ends: expected buy or sell"),
+    ("order 0 no 1 security 0 main buy", "the line ends: expected limit, ato, atc or mp"),
+    ("order 0 no 1 security 0 main buy ato", "the line ends: expected x"),
+    ("order 0 no 1 security 0 main buy ato x 5", "the line ends: expected front, online or dma"),
+    // prices
+    ("order 0 no 1 security 0 main buy limit x 100 online", r#""x": expected a price in baht, as 50.25"#),
+    ("prices 0 main last 50", r#""50": expected a price in baht, as 50.25"#),
+    ("prices 0 main last 50.5", r#""50.5": expected a price in baht, as 50.25"#),
+    ("prices 0 main last 50.125", r#""50.125": expected a price in baht, as 50.25"#),
+    ("prices 0 main last .50", r#"".50": expected a price in baht, as 50.25"#),
+    ("prices 0 main last -1.00", r#""-1.00": expected a price in baht, as 50.25"#),
+    ("prices 0 main last +1.00", r#""+1.00": expected a price in baht, as 50.25"#),
+    ("prices 0 main last 42949672.96", r#""42949672.96": expected a price in baht, as 50.25"#),
+    // times
+    ("clock 9:55:00", r#""9:55:00": expected a time, as 09:55:00.000"#),
+    ("clock 09:55", r#""09:55": expected a time, as 09:55:00.000"#),
+    ("clock 09:60:00", r#""09:60:00": expected a time, as 09:55:00.000"#),
+    ("clock 09:00:60", r#""09:00:60": expected a time, as 09:55:00.000"#),
+    ("clock 09:55:00.5", r#""09:55:00.5": expected a time, as 09:55:00.000"#),
+    ("clock 1193:02:47.296", r#""1193:02:47.296": expected a time, as 09:55:00.000"#),
+    // numbers
+    ("cancel one no 1", r#""one": expected a customer, 0 to 65535"#),
+    ("cancel -1 no 1", r#""-1": expected a customer, 0 to 65535"#),
+    ("cancel 65536 no 1", r#""65536": expected a customer, 0 to 65535"#),
+    ("cancel 0 no +1", r#""+1": expected an order number, 0 to 4294967295"#),
+    ("cancel 0 no 4294967296", r#""4294967296": expected an order number, 0 to 4294967295"#),
+    ("setup 0 lot 256", r#""256": expected a lot, 0 to 255"#),
+    ("setup 0 lot 1 free 256", r#""256": expected a number, 0 to 255"#),
+    ("session 256", r#""256": expected a number, 0 to 255"#),
+    ("prices 0 board 256", r#""256": expected a number, 0 to 255"#),
+    // past the end
+    ("cancel 0 no 1 2", r#""2": expected the end of the line"#),
+    ("session open now", r#""now": expected the end of the line"#),
+    // bytes
+    ("bytes 9", r#""9": expected a byte, as 0f"#),
+    ("bytes 0g", r#""0g": expected a byte, as 0f"#),
+    ("bytes +1", r#""+1": expected a byte, as 0f"#),
+];
 
 #[test]
 fn bad_lines() {
-    let table = [
-        ("open", r#"unknown word "open""#),
-        ("Order 0", r#"unknown word "Order""#),
-        (
-            "order 0 no 1 security 0 main buyy limit 50.00 x 100 online",
-            r#"unknown word "buyy""#,
-        ),
-        ("order 0 number 1", r#"unknown word "number""#),
-        ("order 0 no 1 security 0 side 1", r#"unknown word "side""#),
-        ("session opened", r#"unknown word "opened""#),
-        ("setup 0 lot 100 gratis", r#"unknown word "gratis""#),
-        ("setup 0 free lot 100", r#"unknown word "free""#),
-        ("setup 0 lot 100 free two", r#"unknown word "two""#),
-        ("prices 0 main sale 50.00", r#"unknown word "sale""#),
-        ("prices 0 1 last 50.00", r#"unknown word "1""#),
-        ("clock", "the line ends where a time should stand"),
-        ("session", "the line ends where a session should stand"),
-        ("setup", "the line ends where a security should stand"),
-        ("setup 0", r#"the line ends where "lot" should stand"#),
-        ("setup 0 lot", "the line ends where a lot should stand"),
-        (
-            "setup 0 lot 100 close",
-            "the line ends where a price should stand",
-        ),
-        ("prices 0", "the line ends where the board should stand"),
-        (
-            "prices 0 board",
-            "the line ends where a number should stand",
-        ),
-        (
-            "prices 0 main last",
-            "the line ends where a price should stand",
-        ),
-        ("cancel", "the line ends where a customer should stand"),
-        ("cancel 0", r#"the line ends where "no" should stand"#),
-        (
-            "cancel 0 no",
-            "the line ends where an order number should stand",
-        ),
-        ("match 0 no 1", r#"the line ends where "x" should stand"#),
-        (
-            "match 0 no 1 x",
-            "the line ends where a volume should stand",
-        ),
-        (
-            "order 0 no 1 security 0 main",
-            "the line ends where the side should stand",
-        ),
-        (
-            "order 0 no 1 security 0 main buy",
-            "the line ends where the type should stand",
-        ),
-        (
-            "order 0 no 1 security 0 main buy ato",
-            r#"the line ends where "x" should stand"#,
-        ),
-        (
-            "order 0 no 1 security 0 main buy ato x 5",
-            "the line ends where the channel should stand",
-        ),
-        (
-            "order 0 no 1 security 0 main buy limit x 100 online",
-            r#""x" is no price in baht, as 50.25"#,
-        ),
-        (
-            "prices 0 main last 50",
-            r#""50" is no price in baht, as 50.25"#,
-        ),
-        (
-            "prices 0 main last 50.5",
-            r#""50.5" is no price in baht, as 50.25"#,
-        ),
-        (
-            "prices 0 main last 50.125",
-            r#""50.125" is no price in baht, as 50.25"#,
-        ),
-        (
-            "prices 0 main last .50",
-            r#"".50" is no price in baht, as 50.25"#,
-        ),
-        (
-            "prices 0 main last -1.00",
-            r#""-1.00" is no price in baht, as 50.25"#,
-        ),
-        (
-            "prices 0 main last +1.00",
-            r#""+1.00" is no price in baht, as 50.25"#,
-        ),
-        (
-            "prices 0 main last 42949672.96",
-            r#""42949672.96" is no price in baht, as 50.25"#,
-        ),
-        (
-            "prices 0 main last 1.00 last 1.00",
-            r#""last" stands twice"#,
-        ),
-        ("setup 0 lot 1 free free", r#""free" stands twice"#),
-        ("clock 9:55:00", r#""9:55:00" is no time, as 09:55:00.000"#),
-        ("clock 09:55", r#""09:55" is no time, as 09:55:00.000"#),
-        (
-            "clock 09:60:00",
-            r#""09:60:00" is no time, as 09:55:00.000"#,
-        ),
-        (
-            "clock 09:00:60",
-            r#""09:00:60" is no time, as 09:55:00.000"#,
-        ),
-        (
-            "clock 09:55:00.5",
-            r#""09:55:00.5" is no time, as 09:55:00.000"#,
-        ),
-        (
-            "clock 1193:02:47.296",
-            r#""1193:02:47.296" is no time, as 09:55:00.000"#,
-        ),
-        ("cancel one no 1", r#""one" is no number"#),
-        ("cancel -1 no 1", r#""-1" is no number"#),
-        ("cancel 0 no +1", r#""+1" is no number"#),
-        ("cancel 65536 no 1", "65536 is above 65535"),
-        ("cancel 0 no 4294967296", "4294967296 is above 4294967295"),
-        ("setup 0 lot 256", "256 is above 255"),
-        ("setup 0 lot 1 free 256", "256 is above 255"),
-        ("session 256", "256 is above 255"),
-        ("prices 0 board 256", "256 is above 255"),
-        (
-            "cancel 0 no 1 2",
-            r#""2" stands after the end of the event"#,
-        ),
-        (
-            "session open now",
-            r#""now" stands after the end of the event"#,
-        ),
-        ("bytes 9", r#""9" is no byte, as 0f"#),
-        ("bytes 0g", r#""0g" is no byte, as 0f"#),
-        ("bytes +1", r#""+1" is no byte, as 0f"#),
-    ];
-    for (line, reason) in table {
+    for (line, reason) in BAD_LINES {
         let error = encode(line).expect_err(line).to_string();
         assert_eq!(error, format!("line 1: {reason}"), "{line}");
     }
@@ -148,11 +91,20 @@ fn bad_lines() {
 
 #[test]
 fn comments_and_blank_lines_count() {
-    let text =
-        "# a day\n\nsession open\n  # buys\nclock 10:00:00\n\norder 0 no 1 security 0 main buyy\n";
-    let error = encode(text).unwrap_err();
+    let day = "# a day\n\nsession open\n  # buys\nclock 10:00:00\n\norder 0 no 1 security 0 mian\n";
+    let error = encode(day).unwrap_err();
     assert_eq!(error.line, 7);
-    assert_eq!(error.to_string(), r#"line 7: unknown word "buyy""#);
+    assert_eq!(
+        error.to_string(),
+        r#"line 7: "mian": expected main or foreign"#
+    );
+}
+
+#[test]
+fn no_text() {
+    let error = text(b"#\n# \xff\n").unwrap_err();
+    assert_eq!(error.to_string(), "line 2: not UTF-8 text");
+    assert_eq!(text("# ฿\n".as_bytes()), Ok("# ฿\n"));
 }
 
 #[test]
@@ -179,6 +131,6 @@ fn broken_events() {
     ];
     for (bytes, message) in table {
         assert_eq!(decode(bytes).unwrap_err().to_string(), message);
-        assert!(Lines::new(bytes).last().unwrap().is_err());
+        assert!(lines(bytes).last().unwrap().is_err());
     }
 }

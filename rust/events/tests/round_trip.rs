@@ -1,6 +1,6 @@
 //! Bytes to text and back, and text to bytes and back.
 
-use events::{Event, Order, Prices, Setup, decode, encode, encode_each, line};
+use events::{Event, Order, Prices, Setup, decode, encode, encode_each, line, split};
 use second::encode as bytes_of;
 use second::event::length;
 
@@ -139,6 +139,20 @@ fn bytes_as_they_are() {
     assert_eq!(line(&[2, 2, 2]), "bytes 02 02 02");
     assert_eq!(line(&[]), "bytes");
     assert_eq!(encode_each("bytes").unwrap(), [vec![]]);
+}
+
+/// What cannot be read takes all that is left.
+#[test]
+fn where_events_end() {
+    let table: [(&[u8], &[&[u8]]); 4] = [
+        (&[], &[]),
+        (&[2, 2, 2, 1], &[&[2, 2], &[2, 1]]),
+        (&[2, 2, 2], &[&[2, 2], &[2]]),
+        (&[2, 2, 31, 2, 2], &[&[2, 2], &[31, 2, 2]]),
+    ];
+    for (bytes, events) in table {
+        assert_eq!(split(bytes).collect::<Vec<_>>(), events);
+    }
 }
 
 #[test]

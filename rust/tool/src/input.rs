@@ -1,0 +1,82 @@
+//! Days from files and from standard input.
+
+use std::fs;
+use std::io::{self, Read};
+use std::path::Path;
+
+use crate::failure::Failure;
+
+/// All bytes of the file; `-` is standard input.
+pub fn read(file: &Path) -> Result<Vec<u8>, Failure> {
+    let mut bytes = Vec::new();
+    let done = match file.to_str() {
+        Some("-") => io::stdin().read_to_end(&mut bytes).map(|_| bytes),
+        _ => fs::read(file),
+    };
+    done.map_err(|error| Failure::Input(format!("{}: {error}", name(file))))
+}
+
+/// The events of a day, text or bytes. In a text every line is one; in bytes an
+/// unknown kind, or an event cut short, takes all the rest and so ends the day.
+pub fn day(file: &Path) -> Result<Vec<Vec<u8>>, Failure> {
+    let day = read(file)?;
+    if is_bytes(&day) {
+        Ok(events::split(&day).map(<[u8]>::to_vec).collect())
+    } else {
+        events_of_text(file, &day)
+    }
+}
+
+/// The bytes of a text, an event a line.
+pub fn events_of_text(file: &Path, bytes: &[u8]) -> Result<Vec<Vec<u8>>, Failure> {
+    events::text(bytes)
+        .and_then(events::encode_each)
+        .map_err(|wrong| Failure::Input(format!("{}:{}: {}", name(file), wrong.line, wrong.reason)))
+}
+
+/// A kind of event is a control character, and no text begins with one but for
+/// white space. Kinds 9 to 12 of paper 02 are white space too: there another
+/// control character tells, such as the high byte of a security.
+fn is_bytes(day: &[u8]) -> bool {
+    let white = |byte: &u8| byte.is_ascii_whitespace() || *byte == b'\x0b';
+    let begins = day.first().is_some_and(u8::is_ascii_control);
+    begins
+        && day
+            .iter()
+            .any(|byte| byte.is_ascii_control() && !white(byte))
+}
+
+/// As messages name the file.
+pub fn name(file: &Path) -> String {
+    match file.to_str() {
+        Some("-") => "standard input".into(),
+        _ => file.display().to_string(),
+    }
+}
+
+#[cfg(test)]
+mod tests {
+    use super::*;
+
+    #[test]
+    fn text_and_bytes() {
+        let texts: [&[u8]; 6] = [
+            b"",
+            b"session open\n",
+            b"# a day\n\nsession open",
+            b"\n\tsession open\r\n",
+            "\n# ฿\n".as_bytes(),
+            b"session \x07",
+        ];
+        let bytes: [&[u8]; 5] = [
+            &[2, 2],
+            &[0],
+            &[8, b'a', b'b'],
+            // paper 02's kinds 9 and 10, for security 0 and for one with a letter's number
+            &[9, 0, 0],
+            &[10, b'a', 0, 100, 0, 0],
+        ];
+        assert!(texts.iter().all(|day| !is_bytes(day)));
+        assert!(bytes.iter().all(|day| is_bytes(day)));
+    }
+}

@@ -1,0 +1,44 @@
+//! A security's record as a table.
+
+use std::io::{self, Write};
+
+use events::Price;
+use events::words::BOARDS;
+
+use crate::market::Security;
+use crate::table::{self, Column};
+
+pub fn write(out: &mut impl Write, security: &Security) -> io::Result<()> {
+    let free = match security.free {
+        true => "yes, no ceiling and floor",
+        false => "no",
+    };
+    let first_day = if security.first_day { "yes" } else { "no" };
+    writeln!(out, "lot          {}", security.lot)?;
+    writeln!(out, "free         {free}")?;
+    writeln!(out, "first day    {first_day}")?;
+    writeln!(out, "prior close  {}", Price(security.prior_close))?;
+    writeln!(out, "IPO price    {}", Price(security.ipo))?;
+    writeln!(out)?;
+    let columns = [
+        Column::Left("board"),
+        Column::Right("projected"),
+        Column::Right("last"),
+        Column::Right("bid"),
+        Column::Right("offer"),
+    ];
+    let boards = BOARDS.words.iter().zip(&security.boards);
+    let rows: Vec<[String; 5]> = boards
+        .map(|(board, prices)| {
+            let price = |satang| Price(satang).to_string();
+            [
+                board.to_string(),
+                price(prices.projected),
+                price(prices.last),
+                price(prices.bid),
+                price(prices.offer),
+            ]
+        })
+        .collect();
+    table::write(out, columns, &rows)
+}

@@ -1,0 +1,133 @@
+//! Desks and securities after a day, and the ladder.
+
+mod common;
+
+use common::out;
+
+const DAY: &[u8] = b"\
+clock 10:00:00
+session pre-close
+setup 3 lot 50 free ipo 12.05
+prices 3 foreign projected 12.00 last 11.90 bid 11.80 offer 12.10
+order 1 no 70000 security 3 main sell limit 12.00 x 1000 online
+order 1 no 8 security 15 foreign buy limit 1000.00 x 100 front
+order 1 no 9 security 3 main buy atc x 50 dma
+order 1 no 10 security 3 main buy atc x 51 dma
+match 1 no 8 x 40
+cancel 1 no 70000
+clock 10:00:01.250
+";
+
+#[test]
+fn desks() {
+    assert_eq!(
+        out(&["desk", "-", "1"], DAY),
+        "\
+customer 1 at 10:00:01.250, session pre-close
+
+accepted  3
+warned    0
+rejected  1
+
+   no  security  board    side  type     price  volume  mark
+70000         3  main     sell  limit    12.00    1000  cancelled at 10:00:00.000
+    8        15  foreign  buy   limit  1000.00      60  open
+    9         3  main     buy   atc          -      50  open
+"
+    );
+    assert_eq!(
+        out(&["desk", "-", "7"], b""),
+        "\
+customer 7 at 00:00:00.000, session closed
+
+accepted  0
+warned    0
+rejected  0
+
+no rows
+"
+    );
+    let last = out(&["desk", "--customers", "256", "-", "255"], b"");
+    assert!(last.starts_with("customer 255 at "));
+}
+
+#[test]
+fn securities() {
+    assert_eq!(
+        out(&["security", "-", "3"], DAY),
+        "\
+security 3 at 10:00:01.250, session pre-close
+
+lot          50
+free         yes, no ceiling and floor
+first day    no
+prior close  -
+IPO price    12.05
+
+board    projected   last    bid  offer
+main             -      -      -      -
+foreign      12.00  11.90  11.80  12.10
+"
+    );
+    assert_eq!(
+        out(&["security", "day.txt", "1"], b""),
+        "\
+security 1 at 16:30:00.000, session closed
+
+lot          100
+free         yes, no ceiling and floor
+first day    yes
+prior close  -
+IPO price    12.00
+
+board    projected   last    bid  offer
+main             -  20.00  19.90  20.10
+foreign          -      -      -      -
+"
+    );
+    let last = out(&["security", "-", "1023", "--securities", "1024"], b"");
+    assert!(last.starts_with("security 1023 at "));
+}
+
+/// In bytes as in text.
+#[test]
+fn bytes() {
+    let bytes = common::run(&["encode"], DAY).stdout;
+    for command in [["desk", "-", "1"], ["security", "-", "3"]] {
+        assert_eq!(out(&command, &bytes), out(&command, DAY));
+    }
+}
+
+#[test]
+fn ladder() {
+    assert_eq!(
+        out(&["ladder", "50.00"], b""),
+        "\
+50.00 is position 700
+next below  49.75
+next above  50.25
+
+legal within   from     to  outside
+10 positions  47.50  52.50  warn 10
+30 percent    35.00  65.00  warn 30
+50 percent    25.00  75.00  reject Q
+"
+    );
+    let table = [
+        (
+            "0.01",
+            "0.01 is position 1\nnext below  -\nnext above  0.02\n",
+        ),
+        (
+            "65.60",
+            "65.60 is no legal price\nnext below  65.50\nnext above  65.75\n",
+        ),
+        (
+            "100000.00",
+            "100000.00 is position 51100\nnext below  99998.00\nnext above  -\n",
+        ),
+    ];
+    for (price, lines) in table {
+        assert!(out(&["ladder", price], b"").starts_with(lines), "{price}");
+    }
+}

@@ -1,0 +1,124 @@
+//! What is said to a command that is not as the help says, and the help.
+
+mod common;
+
+use common::{error, out};
+
+#[test]
+fn usage() {
+    let commands = "expected day, desk, security, ladder, encode or decode";
+    let table: &[(&[&str], &str)] = &[
+        (&[], &format!("the command ends: {commands}")),
+        (&["dya"], &format!("\"dya\": {commands}")),
+        (&["-h"], &format!("\"-h\": {commands}")),
+        (&["day"], "the command ends: expected a file"),
+        (&["day", "--quiet"], "the command ends: expected a file"),
+        (
+            &["day", "day.txt", "more"],
+            r#""more": expected the end of the command"#,
+        ),
+        (
+            &["day", "day.txt", "--quite"],
+            r#""--quite": no such option here, or given twice"#,
+        ),
+        (
+            &["day", "--quiet", "day.txt", "--quiet"],
+            r#""--quiet": no such option here, or given twice"#,
+        ),
+        (
+            &["desk", "day.txt", "1", "--quiet"],
+            r#""--quiet": no such option here, or given twice"#,
+        ),
+        (
+            &["day", "day.txt", "--only", "rejct,warn"],
+            r#""rejct": expected ok, accept, warn, reject or refused"#,
+        ),
+        (
+            &["day", "day.txt", "--only"],
+            "the command ends after --only: expected ok, accept, warn, reject or refused",
+        ),
+        (
+            &["day", "day.txt", "--customers"],
+            "the command ends after --customers: expected a number, 1 to 256",
+        ),
+        (
+            &["day", "day.txt", "--customers", "0"],
+            r#""0" after --customers: expected a number, 1 to 256"#,
+        ),
+        (
+            &["desk", "day.txt", "0", "--customers", "257"],
+            r#""257" after --customers: expected a number, 1 to 256"#,
+        ),
+        (
+            &["day", "day.txt", "--securities", "1025"],
+            r#""1025" after --securities: expected a number, 1 to 1024"#,
+        ),
+        (
+            &["desk", "day.txt"],
+            "the command ends: expected a customer, 0 to 7",
+        ),
+        (
+            &["desk", "day.txt", "8"],
+            r#""8": expected a customer, 0 to 7"#,
+        ),
+        (
+            &["security", "day.txt", "first"],
+            r#""first": expected a security, 0 to 15"#,
+        ),
+        (
+            &["ladder"],
+            "the command ends: expected a price in baht, 0.01 to 100000.00",
+        ),
+        (
+            &["ladder", "50"],
+            r#""50": expected a price in baht, 0.01 to 100000.00"#,
+        ),
+        (
+            &["ladder", "0.00"],
+            r#""0.00": expected a price in baht, 0.01 to 100000.00"#,
+        ),
+        (
+            &["ladder", "100000.01"],
+            r#""100000.01": expected a price in baht, 0.01 to 100000.00"#,
+        ),
+        (
+            &["encode", "a", "b"],
+            r#""b": expected the end of the command"#,
+        ),
+        (
+            &["decode", "--quiet"],
+            r#""--quiet": no such option here, or given twice"#,
+        ),
+    ];
+    for (arguments, reason) in table {
+        let said = error(arguments, b"", 2);
+        assert_eq!(
+            said,
+            format!("guvontsira: {reason}\ntry guvontsira --help\n")
+        );
+    }
+}
+
+#[test]
+fn help_and_version() {
+    let help = out(&["--help"], b"");
+    for word in [
+        "day FILE",
+        "desk FILE",
+        "security FILE",
+        "ladder PRICE",
+        "encode",
+        "decode",
+    ] {
+        assert!(help.contains(&format!("guvontsira {word}")), "{word}");
+    }
+    for arguments in [&["day", "--help"][..], &["--help", "nothing"]] {
+        assert_eq!(out(arguments, b""), help);
+    }
+    assert!(help.lines().all(|line| line.len() <= 82));
+    let version = out(&["--version"], b"");
+    assert_eq!(
+        version,
+        concat!("guvontsira ", env!("CARGO_PKG_VERSION"), "\n")
+    );
+}
