@@ -36,10 +36,11 @@ extern "C" {
 /*
  * The release that this header belongs to: 10,000 times its major number, 100
  * times its minor one, and its patch. The major number rises when something that
- * was there changes (a kind's bytes, what an answer's number means, when a
- * verdict is given, where a word stands), the minor one when something is added
- * beside it, the patch when no byte, number or word differs. guvontsira_version
- * gives the library's; a program stops where the two differ.
+ * was there changes (a kind's bytes, the answer to an event of a known kind, what
+ * an answer's number means, where a word stands), the minor one when something is
+ * added (a function, or a kind that was unknown, with its answers), the patch when
+ * no byte, answer or word differs. guvontsira_version gives the library's; a
+ * program stops where the two differ.
  */
 #define GUVONTSIRA_VERSION 10000 /* 1.0.0 */
 
