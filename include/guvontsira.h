@@ -15,7 +15,13 @@
  * during a call. So one state must not be used by two calls
  * at once; calls on different states may run at the same time.
  *
- * Link with libguvontsira.a, which needs only memcpy and memset.
+ * Link with libguvontsira.a, which needs only memcpy and memset. It is compiled
+ * for x86-64 Linux. The words are in the machine's byte order, which is
+ * little-endian there, as the fields of events are everywhere: words that are
+ * kept in a file can be lent again by any program on such a machine.
+ *
+ * A call takes less than GUVONTSIRA_STACK_BYTES of the caller's stack: 5,980
+ * measured, and 8,868 where a lazy dynamic linker looks up memcpy during it.
  */
 #ifndef GUVONTSIRA_H
 #define GUVONTSIRA_H
@@ -27,9 +33,24 @@
 extern "C" {
 #endif
 
+/*
+ * The release that this header belongs to: 10,000 times its major number, 100
+ * times its minor one, and its patch. The major number rises when something that
+ * was there changes (a kind's bytes, the answer to an event of a known kind, what
+ * an answer's number means, where a word stands), the minor one when something is
+ * added (a function, or a kind that was unknown, with its answers), the patch when
+ * no byte, answer or word differs. guvontsira_version gives the library's; a
+ * program stops where the two differ.
+ */
+#define GUVONTSIRA_VERSION 10000 /* 1.0.0 */
+
 #define GUVONTSIRA_MAX_CUSTOMERS 256
 #define GUVONTSIRA_MAX_SECURITIES 1024
-#define GUVONTSIRA_MAX_TIME 86399999 /* milliseconds since midnight */
+#define GUVONTSIRA_MAX_TIME 86399999   /* milliseconds since midnight */
+#define GUVONTSIRA_MAX_PRICE 10000000  /* satang: 100,000.00 baht */
+#define GUVONTSIRA_MAX_POSITION 51100  /* of GUVONTSIRA_MAX_PRICE */
+#define GUVONTSIRA_MAX_VOLUME 20000000 /* shares in one order */
+#define GUVONTSIRA_STACK_BYTES 16384
 
 /*
  * Events. The first byte is the kind, and the kind fixes the length, the kind
@@ -52,6 +73,7 @@ enum guvontsira_kind {
 #define GUVONTSIRA_ORDER_LENGTH 21
 #define GUVONTSIRA_CANCEL_LENGTH 7
 #define GUVONTSIRA_MATCH_LENGTH 11
+#define GUVONTSIRA_MAX_LENGTH 21 /* of the longest kind */
 
 /*
  * The byte of the event at which each field begins; beside it the field's width
@@ -128,7 +150,10 @@ enum guvontsira_channel {
     GUVONTSIRA_CHANNEL_DMA = 2
 };
 
-/* Of a row. */
+/*
+ * Of a row. A cancelled row counts for 60,000 ms: so long its number is taken
+ * and P looks at it. It is removed by a later accepted or warned order.
+ */
 enum guvontsira_mark {
     GUVONTSIRA_MARK_FREE = 0,
     GUVONTSIRA_MARK_OPEN = 1,
@@ -207,8 +232,17 @@ enum guvontsira_row_word {
     GUVONTSIRA_ROW_CANCEL_TIME_WORD = 8  /* 0 while the row is open */
 };
 
-/* Answers. A refusal number says which condition was found first. */
+/*
+ * Answers. 0 is ok. A refusal is the number of the condition that was found
+ * first, below 100. A verdict on an order is 100 for accept, 100 and the warning's
+ * number, or 200 and the place of the rejecting rule's letter in the alphabet (P
+ * is the 16th). So an order may go out if its answer is 100 to 199. An order that
+ * meets several rules gets the first in this order: S V Q W P, warn 30, warn 10.
+ * A price rule whose reference is absent does not apply. docs/RULES.md has the
+ * rules with their edges.
+ */
 enum guvontsira_answer {
+    /* A market event, a cancel or a match was carried out. */
     GUVONTSIRA_OK = 0,
     GUVONTSIRA_REFUSED_STATE = 1,         /* the lent words are no state's */
     GUVONTSIRA_REFUSED_LENGTH = 2,        /* no bytes, or not the kind's length */
@@ -222,20 +256,46 @@ enum guvontsira_answer {
     GUVONTSIRA_REFUSED_NO_OPEN_ROW = 10,  /* nothing to cancel or match */
     GUVONTSIRA_REFUSED_MATCH_VOLUME = 11, /* 0 or more than is open */
     GUVONTSIRA_REFUSED_DESK_FULL = 12,    /* 32 rows in use */
+    /* No rule applies: the order may go out. */
     GUVONTSIRA_ACCEPT = 100,
+    /* It may go out. Its price is more than 10 ladder positions from the
+       projected price, else the last sale, else the prior close: limits on the
+       main board, before the opening and the close, online and DMA. */
     GUVONTSIRA_WARN_10 = 110,
+    /* It may go out. Its price is above 130% or below 70% of the last sale (on the
+       foreign board else the main board's): limits for a free security, session
+       open. */
     GUVONTSIRA_WARN_30 = 130,
+    /* At least 3 million baht again at the price of an own order cancelled at
+       most 60,000 ms ago, twice the new volume being at least the cancelled
+       one: limits, online, session open. */
     GUVONTSIRA_REJECT_P = 216,
+    /* Price above 150% or below 50% of the reference, which is the projected
+       price, else the last sale (on the foreign board else the main board's), else
+       on a first day the IPO price: limits for a free security, before the opening
+       and the close. */
     GUVONTSIRA_REJECT_Q = 217,
+    /* The session does not take an order, or one of this type; or an MP order
+       finds no best price opposite on its board. */
     GUVONTSIRA_REJECT_S = 219,
+    /* Volume 0, above GUVONTSIRA_MAX_VOLUME or no multiple of the lot; or a
+       limit of more than 500 million baht. */
     GUVONTSIRA_REJECT_V = 222,
+    /* It could match an open order of the customer's own: online. */
     GUVONTSIRA_REJECT_W = 223
 };
+
+#define GUVONTSIRA_LAST_REFUSAL GUVONTSIRA_REFUSED_DESK_FULL
+
+/* The library's release; to be compared with GUVONTSIRA_VERSION. */
+uint32_t guvontsira_version(void);
 
 /*
  * Makes a fresh state of 1 to 256 customers and 1 to 1,024 securities in
  * GUVONTSIRA_WORD_COUNT(customers, securities) words, whatever they held. Other
- * counts are refused with 1.
+ * counts are refused with 1. A fresh state has its two counts, every lot 100 and
+ * zeros elsewhere: the clock is at midnight, no price is known, and the session
+ * is closed, so every order gets S until a session event.
  */
 uint32_t guvontsira_make(uint32_t *words, size_t word_count, uint32_t customers,
                          uint32_t securities);
@@ -271,6 +331,135 @@ uint32_t guvontsira_position(uint32_t price);
 
 /* The price in satang at a ladder position; 0 if there is no such position. */
 uint32_t guvontsira_price(uint32_t position);
+
+/*
+ * Builders. Each writes one event to out, which has room for the kind's length
+ * (GUVONTSIRA_MAX_LENGTH is room for any), and gives back that length. Arguments
+ * stand in the order of the bytes. Nothing is tested here: what may not stand in
+ * an event is refused by the gate.
+ *
+ *     uint8_t event[GUVONTSIRA_MAX_LENGTH];
+ *     size_t length = guvontsira_cancel_event(event, 0, 1);
+ *     uint32_t answer = guvontsira_handle(words, word_count, event, length);
+ */
+
+/* For the builders: a field of two and of four bytes. */
+static inline void guvontsira_put_2(uint8_t *place, uint16_t value)
+{
+    place[0] = (uint8_t)value;
+    place[1] = (uint8_t)(value >> 8);
+}
+
+static inline void guvontsira_put_4(uint8_t *place, uint32_t value)
+{
+    guvontsira_put_2(place, (uint16_t)value);
+    guvontsira_put_2(place + 2, (uint16_t)(value >> 16));
+}
+
+static inline size_t guvontsira_clock_event(uint8_t *out, uint32_t time)
+{
+    out[0] = GUVONTSIRA_KIND_CLOCK;
+    guvontsira_put_4(out + GUVONTSIRA_CLOCK_TIME_BYTE, time);
+    return GUVONTSIRA_CLOCK_LENGTH;
+}
+
+static inline size_t guvontsira_session_event(uint8_t *out, enum guvontsira_session session)
+{
+    out[0] = GUVONTSIRA_KIND_SESSION;
+    out[GUVONTSIRA_SESSION_CODE_BYTE] = (uint8_t)session;
+    return GUVONTSIRA_SESSION_LENGTH;
+}
+
+static inline size_t guvontsira_setup_event(uint8_t *out, uint16_t security, uint8_t lot,
+                                            uint8_t free, uint8_t first_day,
+                                            uint32_t prior_close, uint32_t ipo)
+{
+    out[0] = GUVONTSIRA_KIND_SETUP;
+    guvontsira_put_2(out + GUVONTSIRA_SETUP_SECURITY_BYTE, security);
+    out[GUVONTSIRA_SETUP_LOT_BYTE] = lot;
+    out[GUVONTSIRA_SETUP_FREE_BYTE] = free;
+    out[GUVONTSIRA_SETUP_FIRST_DAY_BYTE] = first_day;
+    guvontsira_put_4(out + GUVONTSIRA_SETUP_PRIOR_CLOSE_BYTE, prior_close);
+    guvontsira_put_4(out + GUVONTSIRA_SETUP_IPO_BYTE, ipo);
+    return GUVONTSIRA_SETUP_LENGTH;
+}
+
+/* All four prices of the board are replaced: 0 makes one absent. */
+static inline size_t guvontsira_prices_event(uint8_t *out, uint16_t security,
+                                             enum guvontsira_board board, uint32_t projected,
+                                             uint32_t last, uint32_t bid, uint32_t offer)
+{
+    out[0] = GUVONTSIRA_KIND_PRICES;
+    guvontsira_put_2(out + GUVONTSIRA_PRICES_SECURITY_BYTE, security);
+    out[GUVONTSIRA_PRICES_BOARD_BYTE] = (uint8_t)board;
+    guvontsira_put_4(out + GUVONTSIRA_PRICES_PROJECTED_BYTE, projected);
+    guvontsira_put_4(out + GUVONTSIRA_PRICES_LAST_BYTE, last);
+    guvontsira_put_4(out + GUVONTSIRA_PRICES_BID_BYTE, bid);
+    guvontsira_put_4(out + GUVONTSIRA_PRICES_OFFER_BYTE, offer);
+    return GUVONTSIRA_PRICES_LENGTH;
+}
+
+static inline size_t guvontsira_order_event(uint8_t *out, uint16_t customer, uint32_t number,
+                                            uint16_t security, enum guvontsira_board board,
+                                            enum guvontsira_side side, enum guvontsira_type type,
+                                            enum guvontsira_channel channel, uint32_t price,
+                                            uint32_t volume)
+{
+    out[0] = GUVONTSIRA_KIND_ORDER;
+    guvontsira_put_2(out + GUVONTSIRA_ORDER_CUSTOMER_BYTE, customer);
+    guvontsira_put_4(out + GUVONTSIRA_ORDER_NUMBER_BYTE, number);
+    guvontsira_put_2(out + GUVONTSIRA_ORDER_SECURITY_BYTE, security);
+    out[GUVONTSIRA_ORDER_BOARD_BYTE] = (uint8_t)board;
+    out[GUVONTSIRA_ORDER_SIDE_BYTE] = (uint8_t)side;
+    out[GUVONTSIRA_ORDER_TYPE_BYTE] = (uint8_t)type;
+    out[GUVONTSIRA_ORDER_CHANNEL_BYTE] = (uint8_t)channel;
+    guvontsira_put_4(out + GUVONTSIRA_ORDER_PRICE_BYTE, price);
+    guvontsira_put_4(out + GUVONTSIRA_ORDER_VOLUME_BYTE, volume);
+    return GUVONTSIRA_ORDER_LENGTH;
+}
+
+static inline size_t guvontsira_cancel_event(uint8_t *out, uint16_t customer, uint32_t number)
+{
+    out[0] = GUVONTSIRA_KIND_CANCEL;
+    guvontsira_put_2(out + GUVONTSIRA_CANCEL_CUSTOMER_BYTE, customer);
+    guvontsira_put_4(out + GUVONTSIRA_CANCEL_NUMBER_BYTE, number);
+    return GUVONTSIRA_CANCEL_LENGTH;
+}
+
+static inline size_t guvontsira_match_event(uint8_t *out, uint16_t customer, uint32_t number,
+                                            uint32_t volume)
+{
+    out[0] = GUVONTSIRA_KIND_MATCH;
+    guvontsira_put_2(out + GUVONTSIRA_MATCH_CUSTOMER_BYTE, customer);
+    guvontsira_put_4(out + GUVONTSIRA_MATCH_NUMBER_BYTE, number);
+    guvontsira_put_4(out + GUVONTSIRA_MATCH_VOLUME_BYTE, volume);
+    return GUVONTSIRA_MATCH_LENGTH;
+}
+
+/*
+ * An answer in the words of the day program's listing; "unknown" for a number
+ * that is no answer of this release.
+ */
+static inline const char *guvontsira_answer_text(uint32_t answer)
+{
+    static const char *const low[GUVONTSIRA_LAST_REFUSAL + 1] = {
+        "ok",        "refused 1", "refused 2", "refused 3",  "refused 4",  "refused 5", "refused 6",
+        "refused 7", "refused 8", "refused 9", "refused 10", "refused 11", "refused 12"};
+    if (answer <= GUVONTSIRA_LAST_REFUSAL) {
+        return low[answer];
+    }
+    switch (answer) {
+    case GUVONTSIRA_ACCEPT: return "accept";
+    case GUVONTSIRA_WARN_10: return "warn 10";
+    case GUVONTSIRA_WARN_30: return "warn 30";
+    case GUVONTSIRA_REJECT_P: return "reject P";
+    case GUVONTSIRA_REJECT_Q: return "reject Q";
+    case GUVONTSIRA_REJECT_S: return "reject S";
+    case GUVONTSIRA_REJECT_V: return "reject V";
+    case GUVONTSIRA_REJECT_W: return "reject W";
+    default: return "unknown";
+    }
+}
 
 #ifdef __cplusplus
 }

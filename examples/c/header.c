@@ -1,8 +1,8 @@
 /*
  * Holds the numbers of guvontsira.h to the library: events are built by the
- * header's places and codes, words are read by its places, and each answer is
- * compared with its name. What agrees is listed with its number; those in
- * header.expected are the numbers of paper 01.
+ * header's places and codes, and again by its builders; words are read by its
+ * places, and each answer is compared with its name. What agrees is listed with
+ * its number; those in header.expected are the numbers of paper 01.
  *
  *     cc -std=c11 -Wall -Wextra -Werror -I include examples/c/header.c \
  *        target/staticlib/libguvontsira.a -o target/header && target/header
@@ -10,6 +10,7 @@
 #include <stdio.h>
 #include <stdlib.h>
 #include <string.h>
+#include <ucontext.h>
 
 #include "guvontsira.h"
 
@@ -58,18 +59,29 @@ static uint32_t hand_in(const uint8_t *event, size_t length)
     return guvontsira_handle(words, COUNT(words), event, length);
 }
 
+/* What a builder wrote here, to be the same as an event made by places. */
+static uint8_t built[GUVONTSIRA_MAX_LENGTH];
+
+static uint32_t hand_in_both(const uint8_t *event, size_t length, size_t built_length)
+{
+    if (built_length != length || memcmp(built, event, length) != 0) {
+        same("built event of kind", event[0], 1, 0);
+    }
+    return hand_in(built, built_length);
+}
+
 static uint32_t clock_event(uint32_t time)
 {
     uint8_t event[GUVONTSIRA_CLOCK_LENGTH] = {GUVONTSIRA_KIND_CLOCK};
     put(event + GUVONTSIRA_CLOCK_TIME_BYTE, time, 4);
-    return hand_in(event, sizeof event);
+    return hand_in_both(event, sizeof event, guvontsira_clock_event(built, time));
 }
 
 static uint32_t session(uint8_t code)
 {
     uint8_t event[GUVONTSIRA_SESSION_LENGTH] = {GUVONTSIRA_KIND_SESSION};
     event[GUVONTSIRA_SESSION_CODE_BYTE] = code;
-    return hand_in(event, sizeof event);
+    return hand_in_both(event, sizeof event, guvontsira_session_event(built, code));
 }
 
 struct setup {
@@ -87,7 +99,9 @@ static uint32_t setup(struct setup fields)
     event[GUVONTSIRA_SETUP_FIRST_DAY_BYTE] = fields.first_day;
     put(event + GUVONTSIRA_SETUP_PRIOR_CLOSE_BYTE, fields.prior_close, 4);
     put(event + GUVONTSIRA_SETUP_IPO_BYTE, fields.ipo, 4);
-    return hand_in(event, sizeof event);
+    return hand_in_both(event, sizeof event,
+                        guvontsira_setup_event(built, fields.security, fields.lot, fields.free,
+                                               fields.first_day, fields.prior_close, fields.ipo));
 }
 
 struct prices {
@@ -105,7 +119,10 @@ static uint32_t prices(struct prices fields)
     put(event + GUVONTSIRA_PRICES_LAST_BYTE, fields.last, 4);
     put(event + GUVONTSIRA_PRICES_BID_BYTE, fields.bid, 4);
     put(event + GUVONTSIRA_PRICES_OFFER_BYTE, fields.offer, 4);
-    return hand_in(event, sizeof event);
+    return hand_in_both(event, sizeof event,
+                        guvontsira_prices_event(built, fields.security, fields.board,
+                                                fields.projected, fields.last, fields.bid,
+                                                fields.offer));
 }
 
 struct order {
@@ -128,7 +145,11 @@ static uint32_t order(struct order fields)
     event[GUVONTSIRA_ORDER_CHANNEL_BYTE] = fields.channel;
     put(event + GUVONTSIRA_ORDER_PRICE_BYTE, fields.price, 4);
     put(event + GUVONTSIRA_ORDER_VOLUME_BYTE, fields.volume, 4);
-    return hand_in(event, sizeof event);
+    return hand_in_both(event, sizeof event,
+                        guvontsira_order_event(built, fields.customer, fields.number,
+                                               fields.security, fields.board, fields.side,
+                                               fields.type, fields.channel, fields.price,
+                                               fields.volume));
 }
 
 static uint32_t cancel(uint16_t customer, uint32_t number)
@@ -136,7 +157,7 @@ static uint32_t cancel(uint16_t customer, uint32_t number)
     uint8_t event[GUVONTSIRA_CANCEL_LENGTH] = {GUVONTSIRA_KIND_CANCEL};
     put(event + GUVONTSIRA_CANCEL_CUSTOMER_BYTE, customer, 2);
     put(event + GUVONTSIRA_CANCEL_NUMBER_BYTE, number, 4);
-    return hand_in(event, sizeof event);
+    return hand_in_both(event, sizeof event, guvontsira_cancel_event(built, customer, number));
 }
 
 static uint32_t match(uint16_t customer, uint32_t number, uint32_t volume)
@@ -145,7 +166,8 @@ static uint32_t match(uint16_t customer, uint32_t number, uint32_t volume)
     put(event + GUVONTSIRA_MATCH_CUSTOMER_BYTE, customer, 2);
     put(event + GUVONTSIRA_MATCH_NUMBER_BYTE, number, 4);
     put(event + GUVONTSIRA_MATCH_VOLUME_BYTE, volume, 4);
-    return hand_in(event, sizeof event);
+    return hand_in_both(event, sizeof event,
+                        guvontsira_match_event(built, customer, number, volume));
 }
 
 static void make(void)
@@ -204,6 +226,7 @@ static void lengths(void)
     uint8_t events[COUNT(kinds) * GUVONTSIRA_ORDER_LENGTH] = {0};
     uint32_t answers[COUNT(kinds) + 1];
     uint8_t *end = events;
+    size_t longest = 0;
     for (const struct kind *kind = kinds; kind < kinds + COUNT(kinds); kind++) {
         end[0] = kind->kind;
         same(kind->kind_name, kind->kind, GUVONTSIRA_REFUSED_LENGTH,
@@ -211,7 +234,9 @@ static void lengths(void)
         same(kind->length_name, kind->length, GUVONTSIRA_REFUSED_LENGTH,
              hand_in(end, kind->length + 1));
         end += kind->length;
+        longest = kind->length > longest ? kind->length : longest;
     }
+    MEANS(MAX_LENGTH, GUVONTSIRA_MAX_LENGTH, longest);
     const size_t handled = guvontsira_run(words, COUNT(words), events, (size_t)(end - events),
                                           answers, COUNT(answers));
     same("events of zeros", handled, COUNT(kinds), handled);
@@ -244,6 +269,10 @@ static void ladder(void)
     same("price at 1300", 1300, 40000, guvontsira_price(1300));
     same("position of 400.01", 40001, 0, guvontsira_position(40001));
     same("price at 0", 0, 0, guvontsira_price(0));
+    MEANS(MAX_PRICE, GUVONTSIRA_MAX_POSITION, guvontsira_position(GUVONTSIRA_MAX_PRICE));
+    MEANS(MAX_POSITION, GUVONTSIRA_MAX_PRICE, guvontsira_price(GUVONTSIRA_MAX_POSITION));
+    MEANS(MAX_PRICE, 0, guvontsira_position(GUVONTSIRA_MAX_PRICE + 200));
+    MEANS(MAX_POSITION, 0, guvontsira_price(GUVONTSIRA_MAX_POSITION + 1));
 }
 
 static void market(void)
@@ -432,6 +461,12 @@ static void verdicts(void)
     STANDS(DESK_ACCEPTED_WORD, desk, 2);
     STANDS(DESK_WARNED_WORD, desk, 3);
     STANDS(DESK_REJECTED_WORD, desk, 4);
+
+    buy = (struct order){.number = 31, .security = 3, .price = 1, .volume = GUVONTSIRA_MAX_VOLUME};
+    MEANS(MAX_VOLUME, GUVONTSIRA_ACCEPT, order(buy));
+    buy.number++;
+    buy.volume += 100;
+    MEANS(MAX_VOLUME, GUVONTSIRA_REJECT_V, order(buy));
 }
 
 static void full_desk(void)
@@ -445,14 +480,73 @@ static void full_desk(void)
         buy.number++;
     } while (order(buy) == GUVONTSIRA_ACCEPT);
     ANSWERS(REFUSED_DESK_FULL, order(buy));
+    ANSWERS(LAST_REFUSAL, order(buy));
     MEANS(DESK_ROWS, GUVONTSIRA_DESK_ROWS, buy.number - 1);
     STANDS(ROW_NUMBER_WORD, GUVONTSIRA_ROW_START(SECURITIES, customer, GUVONTSIRA_DESK_ROWS - 1),
            GUVONTSIRA_DESK_ROWS);
     STANDS(DESK_ACCEPTED_WORD, GUVONTSIRA_DESK_START(SECURITIES, customer), GUVONTSIRA_DESK_ROWS);
 }
 
+/* Every number that has words; those of the day program's listing. */
+static void texts(void)
+{
+    for (uint32_t answer = 0; answer < 1000; answer++) {
+        const char *text = guvontsira_answer_text(answer);
+        if (strcmp(text, "unknown") != 0) {
+            printf("%u: %s\n", (unsigned)answer, text);
+        }
+    }
+    printf("%s\n", guvontsira_answer_text(UINT32_MAX));
+}
+
+/* The calls that go deepest run on a stack of their own, to see how much they take. */
+static uint8_t stack[4 * GUVONTSIRA_STACK_BYTES];
+static const uint8_t *caller;
+
+static void deepest(void)
+{
+    const uint16_t customer = CUSTOMERS - 1;
+    uint8_t events[4 * GUVONTSIRA_MAX_LENGTH];
+    size_t lengths[4];
+    uint32_t answers[4];
+    size_t end = 0;
+    caller = events;
+    end += lengths[0] = guvontsira_session_event(events, GUVONTSIRA_SESSION_OPEN);
+    end += lengths[1] = guvontsira_order_event(events + end, customer, 1, 0, GUVONTSIRA_BOARD_MAIN,
+                                               GUVONTSIRA_SIDE_BUY, GUVONTSIRA_TYPE_LIMIT,
+                                               GUVONTSIRA_CHANNEL_ONLINE, 5000, 100);
+    end += lengths[2] = guvontsira_match_event(events + end, customer, 1, 50);
+    end += lengths[3] = guvontsira_cancel_event(events + end, customer, 1);
+    guvontsira_run_list(words, COUNT(words), events, end, lengths, COUNT(lengths), answers,
+                        COUNT(answers));
+    guvontsira_price(77);
+}
+
+static void depth(void)
+{
+    static ucontext_t here, there;
+    const uint8_t unused = 0xa5;
+    size_t untouched = 0;
+
+    make();
+    memset(stack, unused, sizeof stack);
+    getcontext(&there);
+    there.uc_stack.ss_sp = stack;
+    there.uc_stack.ss_size = sizeof stack;
+    there.uc_link = &here;
+    makecontext(&there, deepest, 0);
+    swapcontext(&here, &there);
+    while (stack[untouched] == unused) {
+        untouched++;
+    }
+    MEANS(STACK_BYTES, 1, caller - (stack + untouched) < GUVONTSIRA_STACK_BYTES);
+    same("matched and cancelled on that stack", 1, GUVONTSIRA_MARK_CANCELLED,
+         words[GUVONTSIRA_ROW_START(SECURITIES, CUSTOMERS - 1, 0) + GUVONTSIRA_ROW_MARK_WORD]);
+}
+
 int main(void)
 {
+    ANSWERS(VERSION, guvontsira_version());
     sizes();
     lengths();
     list();
@@ -462,5 +556,7 @@ int main(void)
     rows();
     verdicts();
     full_desk();
+    texts();
+    depth();
     return status;
 }

@@ -6,7 +6,10 @@ ghost use Rattle.definitions.specs.Gate.{answerOf, wordsOf, outcome, made};
 ghost use lib.ListN.{length, take};
 ghost use Rattle.definitions.specs.Walk.{split};
 ghost use Rattle.histories.specs.Ran.{Ran, cut};
+ghost use Rattle.guvontsira.specs.Version.{version};
 use ladder::Ladder;
+
+const VERSION: u32 = 10_000;
 
 #[no_mangle]
 pub extern "C" fn guvontsira_make(words: &mut [u32], customers: u32, securities: u32) -> u32
@@ -61,4 +64,12 @@ pub extern "C" fn guvontsira_price(position: u32) -> u32
     ensures { λ r. ⌜ r ≡ priceAt position ⌝ }
 {
     Ladder::price(position)
+}
+
+// A caller whose header has another number was built for another release.
+#[no_mangle]
+pub extern "C" fn guvontsira_version() -> u32
+    ensures { λ r. ⌜ r ≡ version ⌝ }
+{
+    VERSION
 }

@@ -1,6 +1,7 @@
 //! One customer's counters and rows, read out of a state's words.
 
 use crate::codes::{Board, Mark, OrderType, Side};
+use crate::layout::ROW_WORDS;
 
 /// A marked row of a desk.
 #[derive(Clone, Copy, Debug, PartialEq, Eq)]
@@ -28,33 +29,10 @@ pub struct Desk {
     pub rows: Vec<Row>,
 }
 
-const HEADER_WORDS: usize = 4;
-const SECURITY_WORDS: usize = 13;
-const DESK_WORDS: usize = 291;
-const ROW_WORDS: usize = 9;
-
-/// How many words a state has; `None` if a count is out of range.
-pub(crate) fn word_count(customers: u32, securities: u32) -> Option<usize> {
-    let in_range = (1..=256).contains(&customers) && (1..=1_024).contains(&securities);
-    in_range.then(|| desk_start(securities, customers))
-}
-
-fn desk_start(securities: u32, customer: u32) -> usize {
-    HEADER_WORDS + SECURITY_WORDS * securities as usize + DESK_WORDS * customer as usize
-}
-
 impl Desk {
-    /// `None` if the words are no state's, the customer is not in it, or a
-    /// marked row has a code outside its list.
-    pub(crate) fn read(words: &[u32], customer: u32) -> Option<Desk> {
-        let &[customers, securities, ..] = words else {
-            return None;
-        };
-        if word_count(customers, securities) != Some(words.len()) || customer >= customers {
-            return None;
-        }
-        let desk = &words[desk_start(securities, customer)..][..DESK_WORDS];
-        let &[accepted, warned, rejected, ref rows @ ..] = desk else {
+    /// `None` if a marked row has a code outside its list.
+    pub(crate) fn read(words: &[u32]) -> Option<Desk> {
+        let &[accepted, warned, rejected, ref rows @ ..] = words else {
             return None;
         };
         let marked = rows.chunks_exact(ROW_WORDS).filter(|row| row[0] != 0);

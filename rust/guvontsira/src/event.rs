@@ -13,7 +13,7 @@ use crate::codes::{Board, Channel, OrderType, Session, Side};
 /// let mut state = State::new(8, 16)?;
 /// let cancel = Event::Cancel { customer: 0, number: 1 };
 /// assert_eq!(cancel.bytes(), [6, 0, 0, 1, 0, 0, 0]);
-/// assert_eq!(state.handle(&cancel.bytes()), Answer::Refused(10));
+/// assert_eq!(state.send(&cancel), Answer::Refused(10));
 /// # Ok::<(), guvontsira::Refused>(())
 /// ```
 #[derive(Clone, Copy, Debug, PartialEq, Eq, Hash)]
@@ -70,24 +70,62 @@ pub enum Event {
     },
 }
 
+/// The bytes of an event, kept on the stack.
+pub(crate) struct Bytes {
+    bytes: [u8; Bytes::MOST],
+    length: usize,
+}
+
+impl Bytes {
+    /// Those of an order.
+    const MOST: usize = 21;
+
+    fn of_kind(kind: u8) -> Bytes {
+        let mut bytes = [0; Bytes::MOST];
+        bytes[0] = kind;
+        Bytes { bytes, length: 1 }
+    }
+
+    fn field<const WIDTH: usize>(mut self, field: [u8; WIDTH]) -> Bytes {
+        self.bytes[self.length..][..WIDTH].copy_from_slice(&field);
+        self.length += WIDTH;
+        self
+    }
+
+    fn one(self, field: u8) -> Bytes {
+        self.field([field])
+    }
+
+    fn two(self, field: u16) -> Bytes {
+        self.field(field.to_le_bytes())
+    }
+
+    fn four(self, field: u32) -> Bytes {
+        self.field(field.to_le_bytes())
+    }
+
+    pub(crate) fn as_slice(&self) -> &[u8] {
+        &self.bytes[..self.length]
+    }
+}
+
 impl Event {
     /// The bytes that the gate reads.
     pub fn bytes(&self) -> Vec<u8> {
-        let mut bytes = Vec::new();
-        self.append_to(&mut bytes);
-        bytes
+        self.on_stack().as_slice().to_vec()
     }
 
     /// Puts the event's bytes behind others, as [`State::run`] takes them.
     ///
     /// [`State::run`]: crate::State::run
     pub fn append_to(&self, bytes: &mut Vec<u8>) {
+        bytes.extend_from_slice(self.on_stack().as_slice());
+    }
+
+    pub(crate) fn on_stack(&self) -> Bytes {
         match *self {
-            Event::Clock { time } => {
-                bytes.push(1);
-                bytes.extend(time.to_le_bytes());
-            }
-            Event::Session { session } => bytes.extend([2, session.code()]),
+            Event::Clock { time } => Bytes::of_kind(1).four(time),
+            Event::Session { session } => Bytes::of_kind(2).one(session.code()),
             Event::Setup {
                 security,
                 lot,
@@ -95,13 +133,13 @@ impl Event {
                 first_day,
                 prior_close,
                 ipo,
-            } => {
-                bytes.push(3);
-                bytes.extend(security.to_le_bytes());
-                bytes.extend([lot, free.into(), first_day.into()]);
-                bytes.extend(prior_close.to_le_bytes());
-                bytes.extend(ipo.to_le_bytes());
-            }
+            } => Bytes::of_kind(3)
+                .two(security)
+                .one(lot)
+                .one(free.into())
+                .one(first_day.into())
+                .four(prior_close)
+                .four(ipo),
             Event::Prices {
                 security,
                 board,
@@ -109,14 +147,13 @@ impl Event {
                 last,
                 bid,
                 offer,
-            } => {
-                bytes.push(4);
-                bytes.extend(security.to_le_bytes());
-                bytes.push(board.code());
-                for price in [projected, last, bid, offer] {
-                    bytes.extend(price.to_le_bytes());
-                }
-            }
+            } => Bytes::of_kind(4)
+                .two(security)
+                .one(board.code())
+                .four(projected)
+                .four(last)
+                .four(bid)
+                .four(offer),
             Event::Order {
                 customer,
                 number,
@@ -127,30 +164,22 @@ impl Event {
                 channel,
                 price,
                 volume,
-            } => {
-                bytes.push(5);
-                bytes.extend(customer.to_le_bytes());
-                bytes.extend(number.to_le_bytes());
-                bytes.extend(security.to_le_bytes());
-                bytes.extend([board.code(), side.code(), order_type.code(), channel.code()]);
-                bytes.extend(price.to_le_bytes());
-                bytes.extend(volume.to_le_bytes());
-            }
-            Event::Cancel { customer, number } => {
-                bytes.push(6);
-                bytes.extend(customer.to_le_bytes());
-                bytes.extend(number.to_le_bytes());
-            }
+            } => Bytes::of_kind(5)
+                .two(customer)
+                .four(number)
+                .two(security)
+                .one(board.code())
+                .one(side.code())
+                .one(order_type.code())
+                .one(channel.code())
+                .four(price)
+                .four(volume),
+            Event::Cancel { customer, number } => Bytes::of_kind(6).two(customer).four(number),
             Event::Match {
                 customer,
                 number,
                 volume,
-            } => {
-                bytes.push(7);
-                bytes.extend(customer.to_le_bytes());
-                bytes.extend(number.to_le_bytes());
-                bytes.extend(volume.to_le_bytes());
-            }
+            } => Bytes::of_kind(7).two(customer).four(number).four(volume),
         }
     }
 }

@@ -7,10 +7,11 @@
 //!
 //! let mut state = State::new(8, 16)?;
 //! let open = Event::Session { session: Session::Open };
-//! assert_eq!(state.handle(&open.bytes()), Answer::Ok);
+//! assert_eq!(state.send(&open), Answer::Ok);
+//! assert_eq!(state.session(), Some(Session::Open));
 //! // Order 1 was never entered.
 //! let cancel = Event::Cancel { customer: 0, number: 1 };
-//! assert_eq!(state.handle(&cancel.bytes()).to_string(), "refused 10");
+//! assert_eq!(state.send(&cancel).to_string(), "refused 10");
 //! # Ok::<(), guvontsira::Refused>(())
 //! ```
 //!
@@ -25,14 +26,19 @@ mod answer;
 mod codes;
 mod desk;
 mod event;
+mod layout;
 #[allow(unsafe_code)]
 pub mod library;
+mod release;
+mod security;
 mod state;
 
 pub use answer::{Answer, Refused, Rule};
 pub use codes::{Board, Channel, Mark, OrderType, Session, Side};
 pub use desk::{Desk, Row};
 pub use event::Event;
+pub use release::VERSION;
+pub use security::{Prices, Security};
 pub use state::State;
 
 /// The ladder position of a price in satang; `None` if it is off the ladder.

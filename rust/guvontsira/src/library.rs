@@ -1,4 +1,4 @@
-//! The library's six functions over slices, with its bare numbers. All unsafe
+//! The library's seven functions over slices, with its bare numbers. All unsafe
 //! code of the crate is here.
 //!
 //! Every function is total: any words and any bytes may be handed in, and a
@@ -41,6 +41,8 @@ unsafe extern "C" {
     safe fn guvontsira_position(price: u32) -> u32;
 
     safe fn guvontsira_price(position: u32) -> u32;
+
+    safe fn guvontsira_version() -> u32;
 }
 
 /// Makes a fresh state in the lent words. The answer is ok or refused 1.
@@ -102,4 +104,10 @@ pub fn position(price: u32) -> u32 {
 /// The price in satang at a ladder position; 0 if there is no such position.
 pub fn price(position: u32) -> u32 {
     guvontsira_price(position)
+}
+
+/// The release of the linked library: 10,000 times its major number, 100 times
+/// its minor one, and its patch.
+pub fn version() -> u32 {
+    guvontsira_version()
 }

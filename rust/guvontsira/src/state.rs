@@ -3,8 +3,13 @@
 use std::fmt;
 
 use crate::answer::{Answer, Refused, known};
-use crate::desk::{Desk, word_count};
+use crate::codes::Session;
+use crate::desk::Desk;
+use crate::event::Event;
+use crate::layout::{Words, word_count};
 use crate::library;
+use crate::release::check_linked;
+use crate::security::Security;
 
 /// The state of one trading day.
 ///
@@ -23,11 +28,11 @@ use crate::library;
 ///     price: 50_00,
 ///     volume: 100,
 /// };
-/// assert_eq!(state.handle(&buy.bytes()), Answer::Reject(Rule::S));
+/// assert_eq!(state.send(&buy), Answer::Reject(Rule::S));
 ///
 /// let open = Event::Session { session: Session::Open };
-/// assert_eq!(state.handle(&open.bytes()), Answer::Ok);
-/// assert_eq!(state.handle(&buy.bytes()), Answer::Accept);
+/// assert_eq!(state.send(&open), Answer::Ok);
+/// assert_eq!(state.send(&buy), Answer::Accept);
 ///
 /// let desk = state.desk(0).expect("there are customers 0 to 7");
 /// assert_eq!((desk.accepted, desk.rejected), (1, 1));
@@ -41,8 +46,15 @@ pub struct State {
 
 impl State {
     /// A fresh state of 1 to 256 customers and 1 to 1,024 securities; other
-    /// counts are refused.
+    /// counts are refused. Every lot is 100 and the session is closed, so orders
+    /// get S until a session event.
+    ///
+    /// # Panics
+    /// If the linked library is of another release than [`VERSION`].
+    ///
+    /// [`VERSION`]: crate::VERSION
     pub fn new(customers: u32, securities: u32) -> Result<State, Refused> {
+        check_linked();
         // For counts out of range nothing is set aside: the library refuses
         // them whatever the words.
         let mut words = vec![0; word_count(customers, securities).unwrap_or(0)];
@@ -54,13 +66,26 @@ impl State {
 
     /// A state of words that were kept before. Any words will do: with words
     /// that are no state's, every event is refused.
+    ///
+    /// # Panics
+    /// As [`State::new`].
     pub fn from_words(words: Vec<u32>) -> State {
+        check_linked();
         State { words }
     }
 
     /// All words, to be kept and handed to [`State::from_words`] later.
     pub fn words(&self) -> &[u32] {
         &self.words
+    }
+
+    /// Hands one event to the gate. A refusal changes nothing. Nothing is
+    /// allocated.
+    ///
+    /// # Panics
+    /// As [`State::handle`].
+    pub fn send(&mut self, event: &Event) -> Answer {
+        self.handle(event.on_stack().as_slice())
     }
 
     /// Hands one event to the gate, whatever its bytes. A refusal changes
@@ -118,11 +143,28 @@ impl State {
         numbers.into_iter().map(known).collect()
     }
 
+    /// The clock in milliseconds since midnight. `None` if the words are no
+    /// state's.
+    pub fn clock(&self) -> Option<u32> {
+        Words::read(&self.words).map(|words| words.clock)
+    }
+
+    /// The session. `None` if the words are no state's.
+    pub fn session(&self) -> Option<Session> {
+        Words::read(&self.words).map(|words| words.session)
+    }
+
+    /// One security's terms and prices. `None` if there is no such security, if
+    /// the words are no state's, or if its lot or a flag is outside its list.
+    pub fn security(&self, security: u32) -> Option<Security> {
+        Security::read(Words::read(&self.words)?.security(security)?)
+    }
+
     /// One customer's counters and marked rows. `None` if there is no such
-    /// customer, or if the words are damaged: of a wrong count, or with a code
+    /// customer, if the words are no state's, or if a marked row has a code
     /// outside its list.
     pub fn desk(&self, customer: u32) -> Option<Desk> {
-        Desk::read(&self.words, customer)
+        Desk::read(Words::read(&self.words)?.desk(customer)?)
     }
 }
 

@@ -1,7 +1,8 @@
 //! The wrapper's own behaviour: its types, its counts and its refusals.
 
 use guvontsira::{
-    Answer, Board, Mark, OrderType, Row, Rule, Side, State, library, position, price,
+    Answer, Board, Channel, Event, Mark, OrderType, Prices, Row, Rule, Security, Session, Side,
+    State, VERSION, library, position, price,
 };
 
 fn answers(state: &mut State, text: &str) -> Vec<String> {
@@ -102,6 +103,151 @@ cancel 1 no 7
     assert!(state.desk(0).unwrap().rows.is_empty());
     assert_eq!(state.desk(2), None);
     assert_eq!(state.desk(u32::MAX), None);
+}
+
+#[test]
+fn the_release() {
+    assert_eq!(library::version(), VERSION);
+}
+
+const UNKNOWN: Prices = Prices {
+    projected: 0,
+    last: 0,
+    bid: 0,
+    offer: 0,
+};
+
+#[test]
+fn a_fresh_market() {
+    let state = State::new(2, 3).unwrap();
+    assert_eq!(state.clock(), Some(0));
+    assert_eq!(state.session(), Some(Session::Closed));
+    for security in 0..3 {
+        let fresh = Security {
+            lot: 100,
+            free: false,
+            first_day: false,
+            prior_close: 0,
+            ipo: 0,
+            main: UNKNOWN,
+            foreign: UNKNOWN,
+        };
+        assert_eq!(state.security(security), Some(fresh));
+    }
+    assert_eq!(state.security(3), None);
+    assert_eq!(state.security(u32::MAX), None);
+}
+
+#[test]
+fn a_market() {
+    let mut state = State::new(2, 3).unwrap();
+    answers(
+        &mut state,
+        "\
+clock 16:30:00.250
+session pre-close
+setup 2 lot 50 free close 65.50 ipo 12.01
+setup 1 lot 1 first-day
+prices 2 main projected 50.00 last 49.75 bid 49.50 offer 50.25
+prices 2 foreign projected 40.00 last 39.75 bid 39.50 offer 40.25
+",
+    );
+    assert_eq!(state.clock(), Some(59_400_250));
+    assert_eq!(state.session(), Some(Session::PreClose));
+    let security = state.security(2).unwrap();
+    assert_eq!(
+        (security.lot, security.free, security.first_day),
+        (50, true, false)
+    );
+    assert_eq!((security.prior_close, security.ipo), (65_50, 12_01));
+    let main = Prices {
+        projected: 50_00,
+        last: 49_75,
+        bid: 49_50,
+        offer: 50_25,
+    };
+    let foreign = Prices {
+        projected: 40_00,
+        last: 39_75,
+        bid: 39_50,
+        offer: 40_25,
+    };
+    assert_eq!((security.main, security.foreign), (main, foreign));
+    assert_eq!(
+        [Board::Main, Board::Foreign].map(|board| security.prices(board)),
+        [main, foreign]
+    );
+    let other = state.security(1).unwrap();
+    assert_eq!((other.lot, other.free, other.first_day), (1, false, true));
+
+    // Customers, securities, clock and session; then lot and flags of security 2.
+    for (place, word) in [(0, 3), (1, 4), (2, 86_400_000), (3, 5)] {
+        let mut words = state.words().to_vec();
+        words[place] = word;
+        let mut damaged = State::from_words(words);
+        assert_eq!(damaged.handle(&[2, 2]), Answer::Refused(1));
+        assert_eq!((damaged.clock(), damaged.session()), (None, None));
+        assert_eq!((damaged.security(0), damaged.desk(0)), (None, None));
+    }
+    for (place, word) in [(0, 0), (0, 10), (0, 256 + 50), (1, 2), (2, 2)] {
+        let mut words = state.words().to_vec();
+        words[4 + 13 * 2 + place] = word;
+        let mut damaged = State::from_words(words);
+        assert_eq!(damaged.security(2), None);
+        assert_eq!(damaged.security(1), Some(other));
+        assert_eq!(damaged.clock(), Some(59_400_250));
+        assert_eq!(damaged.handle(&[2, 2]), Answer::Refused(8));
+    }
+}
+
+/// By its fields an event gets the answer and leaves the words that it does by
+/// its bytes.
+#[test]
+fn sent_and_handled() {
+    let order = |number, side| Event::Order {
+        customer: 0,
+        number,
+        security: 0,
+        board: Board::Main,
+        side,
+        order_type: OrderType::Limit,
+        channel: Channel::Online,
+        price: 50_00,
+        volume: 100,
+    };
+    let cancel = Event::Cancel {
+        customer: 0,
+        number: 1,
+    };
+    let day = [
+        Event::Session {
+            session: Session::Open,
+        },
+        Event::Prices {
+            security: 0,
+            board: Board::Main,
+            projected: 0,
+            last: 50_00,
+            bid: 49_75,
+            offer: 50_25,
+        },
+        order(1, Side::Buy),
+        order(2, Side::Sell),
+        cancel,
+        cancel,
+    ];
+    let mut sent = State::new(8, 16).unwrap();
+    let mut handled = State::new(8, 16).unwrap();
+    let answers = day.map(|event| sent.send(&event).to_string());
+    assert_eq!(
+        answers,
+        ["ok", "ok", "accept", "reject W", "ok", "refused 10"]
+    );
+    assert_eq!(
+        answers,
+        day.map(|event| handled.handle(&event.bytes()).to_string())
+    );
+    assert!(sent == handled);
 }
 
 #[test]

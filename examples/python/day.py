@@ -1,0 +1,119 @@
+"""Hands the paper's example events to the gate by ctypes, lists the answers and reads a customer's desk.
+
+The archive as a shared object, from the project's root; then this program:
+
+    cc -shared -o target/libguvontsira.so -Wl,--whole-archive target/staticlib/libguvontsira.a -Wl,--no-whole-archive
+    python3 examples/python/day.py [libguvontsira.so]
+"""
+
+import ctypes
+import pathlib
+import struct
+import sys
+
+VERSION = 10000  # GUVONTSIRA_VERSION of include/guvontsira.h, whose numbers stand here too
+
+CLOCK, SESSION, SETUP, PRICES, ORDER, CANCEL, MATCH = range(1, 8)
+CLOSED, PRE_OPEN, OPEN, BREAK, PRE_CLOSE = range(5)
+MAIN, FOREIGN = range(2)
+BUY, SELL = range(2)
+LIMIT, ATO, ATC, MP = range(4)
+FRONT_OFFICE, ONLINE, DMA = range(3)
+FREE, OPEN_ROW, CANCELLED = range(3)
+
+# The bytes of each kind: little-endian, without gaps.
+FORMATS = {
+    CLOCK: "<BI",
+    SESSION: "<BB",
+    SETUP: "<BHBBBII",
+    PRICES: "<BHBIIII",
+    ORDER: "<BHIHBBBBII",
+    CANCEL: "<BHI",
+    MATCH: "<BHII",
+}
+
+HEADER_WORDS, SECURITY_WORDS, DESK_WORDS, ROW_WORDS, DESK_ROWS = 4, 13, 291, 9, 32
+
+Words = ctypes.POINTER(ctypes.c_uint32)
+
+
+def load(path):
+    library = ctypes.CDLL(path)
+    library.guvontsira_version.argtypes = []
+    library.guvontsira_version.restype = ctypes.c_uint32
+    library.guvontsira_make.argtypes = [Words, ctypes.c_size_t, ctypes.c_uint32, ctypes.c_uint32]
+    library.guvontsira_make.restype = ctypes.c_uint32
+    # A bytes object lends its own memory, which the gate only reads.
+    library.guvontsira_handle.argtypes = [Words, ctypes.c_size_t, ctypes.c_char_p, ctypes.c_size_t]
+    library.guvontsira_handle.restype = ctypes.c_uint32
+    version = library.guvontsira_version()
+    if version != VERSION:
+        raise SystemExit(f"{path} is release {version}, and this program was written for {VERSION}")
+    return library
+
+
+def text(answer):
+    """The words of the day program's listing."""
+    if answer == 0:
+        return "ok"
+    if answer < 100:
+        return f"refused {answer}"
+    if answer < 200:
+        return "accept" if answer == 100 else f"warn {answer - 100}"
+    return "reject " + chr(ord("A") - 1 + answer - 200)
+
+
+class State:
+    """The lent words of one trading day. One call at a time: the gate locks nothing."""
+
+    def __init__(self, library, customers, securities):
+        self.library, self.securities = library, securities
+        self.words = (ctypes.c_uint32 * (HEADER_WORDS + SECURITY_WORDS * securities + DESK_WORDS * customers))()
+        answer = library.guvontsira_make(self.words, len(self.words), customers, securities)
+        if answer != 0:
+            raise ValueError(text(answer))
+
+    def send(self, kind, *fields):
+        event = struct.pack(FORMATS[kind], kind, *fields)
+        return self.library.guvontsira_handle(self.words, len(self.words), event, len(event))
+
+    def desk(self, customer):
+        """The three counters, and the marked rows in order of acceptance."""
+        start = HEADER_WORDS + SECURITY_WORDS * self.securities + DESK_WORDS * customer
+        words = self.words[start : start + DESK_WORDS]
+        rows = [words[3 + ROW_WORDS * row :][:ROW_WORDS] for row in range(DESK_ROWS)]
+        return words[:3], [row for row in rows if row[0] != FREE]
+
+
+DAY = [
+    (SESSION, OPEN),
+    (PRICES, 0, MAIN, 0, 5000, 4975, 5025),
+    (ORDER, 0, 1, 0, MAIN, BUY, LIMIT, ONLINE, 5000, 100),
+    (ORDER, 0, 2, 0, MAIN, SELL, LIMIT, ONLINE, 5000, 100),
+    (CANCEL, 0, 1),
+    (CANCEL, 0, 1),
+    (CLOCK, 36_000_000),
+    (SETUP, 1, 50, 0, 0, 2450, 0),
+    (ORDER, 0, 3, 1, FOREIGN, SELL, LIMIT, DMA, 2450, 150),
+    (MATCH, 0, 3, 50),
+    (CANCEL, 0, 3),
+    (ORDER, 0, 4, 1, FOREIGN, SELL, LIMIT, DMA, 2460, 200),
+]
+
+
+def main():
+    root = pathlib.Path(__file__).resolve().parents[2]
+    path = sys.argv[1] if len(sys.argv) > 1 else str(root / "target" / "libguvontsira.so")
+    state = State(load(path), 8, 16)
+    print("screen 8 16")
+    for index, (kind, *fields) in enumerate(DAY):
+        print(index, kind, text(state.send(kind, *fields)))
+    counters, rows = state.desk(0)
+    print("accepted {}, warned {}, rejected {}".format(*counters))
+    for mark, number, security, board, side, order_type, price, volume, cancel_time in rows:
+        what = "open" if mark == OPEN_ROW else f"cancelled at {cancel_time} ms"
+        print(f"order {number}: security {security}, {'sell' if side == SELL else 'buy'} {volume} at {price / 100:.2f}, {what}")
+
+
+if __name__ == "__main__":
+    main()

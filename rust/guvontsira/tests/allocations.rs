@@ -1,0 +1,112 @@
+//! What the wrapper allocates, by a counting allocator. One test, since others
+//! would be counted with it.
+
+use std::alloc::{GlobalAlloc, Layout, System};
+use std::hint::black_box;
+use std::sync::atomic::{AtomicUsize, Ordering};
+
+use guvontsira::{Answer, Board, Channel, Event, OrderType, Session, Side, State};
+
+struct Counting;
+
+static ALLOCATIONS: AtomicUsize = AtomicUsize::new(0);
+
+// SAFETY: the system's allocator does all the work.
+unsafe impl GlobalAlloc for Counting {
+    unsafe fn alloc(&self, layout: Layout) -> *mut u8 {
+        ALLOCATIONS.fetch_add(1, Ordering::SeqCst);
+        // SAFETY: what the caller owes is owed on.
+        unsafe { System.alloc(layout) }
+    }
+
+    unsafe fn dealloc(&self, place: *mut u8, layout: Layout) {
+        // SAFETY: what the caller owes is owed on.
+        unsafe { System.dealloc(place, layout) }
+    }
+}
+
+#[global_allocator]
+static COUNTING: Counting = Counting;
+
+/// How many allocations the work makes. Threads of the test runner may add
+/// theirs, so the least of several times counts.
+fn least(mut work: impl FnMut()) -> usize {
+    let one = |_| {
+        let before = ALLOCATIONS.load(Ordering::SeqCst);
+        work();
+        ALLOCATIONS.load(Ordering::SeqCst) - before
+    };
+    (0..10).map(one).min().expect("it was tried")
+}
+
+#[test]
+fn none_for_an_event_that_is_sent() {
+    let mut state = State::new(8, 16).unwrap();
+    let order = Event::Order {
+        customer: 0,
+        number: 1,
+        security: 0,
+        board: Board::Main,
+        side: Side::Buy,
+        order_type: OrderType::Limit,
+        channel: Channel::Online,
+        price: 50_00,
+        volume: 100,
+    };
+    let day = [
+        Event::Clock { time: 1 },
+        Event::Session {
+            session: Session::Open,
+        },
+        Event::Setup {
+            security: 0,
+            lot: 50,
+            free: true,
+            first_day: false,
+            prior_close: 50_00,
+            ipo: 0,
+        },
+        Event::Prices {
+            security: 0,
+            board: Board::Main,
+            projected: 0,
+            last: 50_00,
+            bid: 49_75,
+            offer: 50_25,
+        },
+        order,
+        Event::Match {
+            customer: 0,
+            number: 1,
+            volume: 50,
+        },
+        Event::Match {
+            customer: 0,
+            number: 1,
+            volume: 50,
+        },
+        Event::Cancel {
+            customer: 0,
+            number: 1,
+        },
+    ];
+    let expected = [
+        Answer::Ok,
+        Answer::Ok,
+        Answer::Ok,
+        Answer::Ok,
+        Answer::Accept,
+        Answer::Ok,
+        Answer::Ok,
+        Answer::Refused(10),
+    ];
+    let sent = least(|| {
+        for (event, answer) in day.iter().zip(expected) {
+            assert!(state.send(event) == answer);
+        }
+        assert!(state.security(0).is_some() && state.clock() == Some(1));
+    });
+    assert_eq!(sent, 0);
+    // That the allocator counts.
+    assert!(least(|| drop(black_box(order.bytes()))) > 0);
+}
