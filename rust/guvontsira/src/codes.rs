@@ -10,6 +10,8 @@ macro_rules! codes {
         }
 
         impl $name {
+            pub const ALL: &[Self] = &[$(Self::$variant),+];
+
             /// `None` if the code is outside its list.
             pub fn from_code(code: u32) -> Option<Self> {
                 match code {

@@ -12,7 +12,6 @@ mod desk;
 mod failure;
 mod input;
 mod ladder;
-mod market;
 mod security;
 mod table;
 
@@ -28,6 +27,9 @@ use guvontsira::State;
 use crate::command::{Command, Counts, Run};
 use crate::day::Colour;
 use crate::failure::Failure;
+
+/// What the gate promises of the words after every history.
+const WELL_FORMED: &str = "the state is well formed";
 
 const HELP: &str = include_str!("help.txt");
 
@@ -60,8 +62,11 @@ fn carry_out(command: Command, out: &mut impl Write) -> Result<(), Failure> {
         }
         Command::Security { run, security } => {
             let state = after(&run)?;
+            let record = state
+                .security(security)
+                .expect("the security is one of them");
             title(out, &format!("security {security}"), &state)?;
-            security::write(out, &market::security(&state, security))?;
+            security::write(out, &record)?;
         }
         Command::Ladder { price } => ladder::write(out, price)?,
         Command::Encode { file } => {
@@ -86,8 +91,8 @@ fn after(run: &Run) -> Result<State, Failure> {
 }
 
 fn title(out: &mut impl Write, of: &str, state: &State) -> io::Result<()> {
-    let time = Time(market::clock(state));
-    let session = Code(&SESSIONS, market::session(state));
+    let time = Time(state.clock().expect(WELL_FORMED));
+    let session = Code(&SESSIONS, state.session().expect(WELL_FORMED).code());
     writeln!(out, "{of} at {time}, session {session}\n")
 }
 

@@ -2,10 +2,10 @@
 
 use std::io::{self, Write};
 
-use events::Price;
 use events::words::BOARDS;
+use events::{Code, Price};
+use guvontsira::{Board, Security};
 
-use crate::market::Security;
 use crate::table::{self, Column};
 
 pub fn write(out: &mut impl Write, security: &Security) -> io::Result<()> {
@@ -27,12 +27,13 @@ pub fn write(out: &mut impl Write, security: &Security) -> io::Result<()> {
         Column::Right("bid"),
         Column::Right("offer"),
     ];
-    let boards = BOARDS.words.iter().zip(&security.boards);
-    let rows: Vec<[String; 5]> = boards
-        .map(|(board, prices)| {
+    let rows: Vec<[String; 5]> = Board::ALL
+        .iter()
+        .map(|&board| {
+            let prices = security.prices(board);
             let price = |satang| Price(satang).to_string();
             [
-                board.to_string(),
+                Code(&BOARDS, board.code()).to_string(),
                 price(prices.projected),
                 price(prices.last),
                 price(prices.bid),
