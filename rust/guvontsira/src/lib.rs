@@ -37,7 +37,7 @@ pub use answer::{Answer, Refused, Rule};
 pub use codes::{Board, Channel, Mark, OrderType, Session, Side};
 pub use desk::{Desk, Row};
 pub use event::Event;
-pub use release::VERSION;
+pub use release::{RELEASE, VERSION};
 pub use security::{Prices, Security};
 pub use state::State;
 

@@ -10,6 +10,9 @@ pub const VERSION: u32 = 10_000 * number(env!("CARGO_PKG_VERSION_MAJOR"))
     + 100 * number(env!("CARGO_PKG_VERSION_MINOR"))
     + number(env!("CARGO_PKG_VERSION_PATCH"));
 
+/// The same as text, `1.0.0`.
+pub const RELEASE: &str = env!("CARGO_PKG_VERSION");
+
 const fn number(digits: &str) -> u32 {
     match u32::from_str_radix(digits, 10) {
         Ok(number) => number,
@@ -54,7 +57,7 @@ mod tests {
     #[test]
     fn the_linked_one() {
         check_linked();
-        assert_eq!(Release(VERSION).to_string(), env!("CARGO_PKG_VERSION"));
+        assert_eq!(Release(VERSION).to_string(), RELEASE);
     }
 
     #[test]

@@ -48,7 +48,7 @@ fn main() -> ExitCode {
 fn carry_out(command: Command, out: &mut impl Write) -> Result<(), Failure> {
     match command {
         Command::Help => out.write_all(HELP.as_bytes())?,
-        Command::Version => writeln!(out, "guvontsira {}", env!("CARGO_PKG_VERSION"))?,
+        Command::Version => writeln!(out, "guvontsira {}", guvontsira::RELEASE)?,
         Command::Day { run, picked } => {
             let events = input::day(&run.file)?;
             let mut state = fresh(&run.counts);

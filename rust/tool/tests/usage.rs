@@ -117,8 +117,5 @@ fn help_and_version() {
     }
     assert!(help.lines().all(|line| line.len() <= 82));
     let version = out(&["--version"], b"");
-    assert_eq!(
-        version,
-        concat!("guvontsira ", env!("CARGO_PKG_VERSION"), "\n")
-    );
+    assert_eq!(version, format!("guvontsira {}\n", guvontsira::RELEASE));
 }
