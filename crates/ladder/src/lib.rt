@@ -1,5 +1,6 @@
 // Paper 01, "Prices and the ladder": which prices are legal, and at which position each stands.
 ghost use mathlib.Core.Path.{_≡_};
+ghost use Prim.Native.Nat.{_≤_};
 ghost use Rattle.ladder.specs.Ladder.{StepRule, bandOfPrice, legal, onStep, positionNumber, positionOf, priceAt};
 
 mod legal_prices;
@@ -76,6 +77,12 @@ impl Ladder {
     pub fn prices(low: u32, high: u32) -> PriceRange
         ensures { λ r. ⌜ (r .low ≡ priceAt low) × (r .high ≡ priceAt high) ⌝ }
     {
+        if (1300 < low) & (1300 < high) {
+            return PriceRange {
+                low: stepped(low),
+                high: stepped(high),
+            };
+        }
         let table = LEGAL_PRICES;
         PriceRange {
             low: tabled(&table, low),
@@ -84,18 +91,32 @@ impl Ladder {
     }
 }
 
-fn tabled(table: &[u32; 1300], position: u32) -> u32
+fn tabled(table: &[u16; 1300], position: u32) -> u32
     requires { ⌜ StepRule (now table) ⌝ }
     ensures { λ r. ⌜ r ≡ priceAt position ⌝ }
 {
     if position < 1 {
         return 0;
     }
+    if 1300 < position {
+        return stepped(position);
+    }
+    wide(table[(position - 1) as usize])
+}
+
+fn wide(price: u16) -> u32
+    ensures { λ r. ⌜ r ≡ price ⌝ }
+{
+    price as u32
+}
+
+// "Above 400.00 positions follow by the step; the last is 51,100."
+fn stepped(position: u32) -> u32
+    requires { ⌜ 1300 ≤ position ⌝ }
+    ensures { λ r. ⌜ r ≡ priceAt position ⌝ }
+{
     if Ladder::POSITIONS < position {
         return 0;
-    }
-    if position <= 1300 {
-        return table[(position - 1) as usize];
     }
     40_000 + 200 * (position - 1300)
 }
