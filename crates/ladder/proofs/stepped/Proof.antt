@@ -8,10 +8,10 @@ use Rattle.ladder.proofs.stepped.Statement.{statement}
 use Rattle.ladder.proofs.stepped.Tie as tie
 
 returns : tie.Need-returns
-returns c = sym (price-none-above (c .before .args .position) (omega arith) (c .if1 .taken))
+returns c = sym (price-none-above (c .before .args .position) (omega arith) (omega arith))
 
 returns-2 : tie.Need-returns-2
-returns-2 c = sym (price-last-band (c .before .args .position) (c .before .pre) (c .if1 .left))
+returns-2 c = sym (price-last-band (c .before .args .position) (omega arith) (omega arith))
 
 pub stepped-spec : {M : Type 1} → statement M
 stepped-spec = tie.close (tie.spec returns (λ c. search needs) (λ c. search needs) (λ c. search needs) returns-2)

@@ -7,7 +7,7 @@ use Rattle.rule_market.proofs.positions.ten_apart.Tie as tie
 
 returns : tie.Need-returns
 returns c =
-    rw (
+    simp (
       c .before .before .on-ladder .ensures,
       c .before .before .before .prices .ensures .1,
       c .before .before .before .prices .ensures .0,
