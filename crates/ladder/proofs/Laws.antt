@@ -4,16 +4,16 @@ use mathlib.Core.Bool.{Bool, true, false, cond, _&&_, and-eq-true-iff}
 use mathlib.Core.List.{_∷_}
 use mathlib.Core.Logic.{⊎-elim}
 use mathlib.Core.Path.{_≡_, refl, ap, subst, sym, _∙_}
-use Prim.Native.Nat.{ℕ, _+_, _-_, _*_, _≤_, _<_}
+use Prim.Native.Nat.{ℕ, zero, suc, _+_, _-_, _*_, _≤_, _<_}
 use native.Mathlib.Nat.{eq-or-lt-of-le, mod-one}
 use native.Mathlib.Omega.{arith}
-use lib.Dec.{leb, lit≤}
+use lib.Dec.{leb, ltb, lit≤}
 use lib.ListN.{length, getD, drop}
-use borrow.Author.Tests.{leb-true, le-leb, lt-leb, eq-eqb}
+use borrow.Author.Tests.{leb-true, le-leb, lt-leb, ltb-true, ltb-false, lt-ltb, le-ltb, eq-eqb}
 use Rattle.ladder.specs.declared.Band.{Band}
 use Rattle.ladder.specs.declared.Position.the-variants.{At, Off}
 use Rattle.ladder.specs.Bands.{lowest, higher, firstPrice, lastPrice, positions}
-use Rattle.ladder.specs.Ladder.{lastBand, bandOfPrice, bandOfPosition, onStep, positionIn, priceIn, legal, positionOf, priceAt}
+use Rattle.ladder.specs.Ladder.{lastBand, bandOfPrice, bandOfPosition, onStep, positionIn, priceIn, legal, positionOf, positionNumber, priceAt}
 use Rattle.ladder.proofs.Step as step
 use Rattle.ladder.proofs.Chain as chain
 use Rattle.ladder.proofs.Chain.{Chained, begun, ended}
@@ -193,20 +193,33 @@ position-at p k e =
     let parts = at-means (legal p) (positionIn (bandOfPrice p) p) k e in
     subst (Has p) (parts .1) (legal-has p (legal-true p (parts .0)))
 
-pub price-grows : (j k : ℕ) → 1 ≤ j → j < k → k ≤ positions → priceAt j < priceAt k
-price-grows j k one less last = rw (price-at j one (omega arith), price-at k (omega arith) last) (step-grows j k one less)
+-- from the absent price on, which is before the first position
+pub price-grows : (j k : ℕ) → j < k → k ≤ positions → priceAt j < priceAt k
+price-grows zero k less last = rw (price-none-below 0 (lit≤ tt), price-at k less last) (step-first k less)
+price-grows (suc j) k less last =
+    rw (price-at (suc j) (omega arith) (omega arith), price-at k (omega arith) last) (step-grows (suc j) k (omega arith) less)
 
-price-order : (j k : ℕ) → j ≤ positions → 1 ≤ k → priceAt j < priceAt k → j < k
-price-order j k last one less =
+price-order : (j k : ℕ) → j ≤ positions → priceAt j < priceAt k → j < k
+price-order j k last less =
     let differ : ¬ (j ≡ k) = λ same. omega (arith, ap priceAt same) in
-    let never : ¬ (k < j) = λ more. omega (arith, price-grows k j one more last) in
+    let never : ¬ (k < j) = λ more. omega (arith, price-grows k j more last) in
     omega arith
+
+-- prices stand in the order of their positions, so that a rule may compare either
+pub price-less : (j k : ℕ) → j ≤ positions → k ≤ positions → ltb (priceAt j) (priceAt k) ≡ ltb j k
+price-less j k last last-k = go (ltb j k) refl
+  where
+    go : (t : Bool) → ltb j k ≡ t → ltb (priceAt j) (priceAt k) ≡ ltb j k
+    go true e = lt-ltb _ _ (price-grows j k (ltb-true j k e) last-k) ∙ sym e
+    go false e =
+        let never : ¬ (priceAt j < priceAt k) = λ less. omega (arith, price-order j k last less, ltb-false j k e) in
+        le-ltb (priceAt j) (priceAt k) (omega arith) ∙ sym e
 
 pub position-grows : (p q j k : ℕ) → positionOf p ≡ At j → positionOf q ≡ At k → p < q → j < k
 position-grows p q j k ep eq less =
     let hp = position-at p j ep in
     let hq = position-at q k eq in
-    price-order j k (hp .to-last) (hq .from-first) (omega (arith, hp .price, hq .price))
+    price-order j k (hp .to-last) (omega (arith, hp .price, hq .price))
 
 pub off-between : (k p : ℕ) → 1 ≤ k → k < positions → priceAt k < p → p < priceAt (k + 1) → positionOf p ≡ Off
 unfolding positionOf
@@ -215,7 +228,25 @@ off-between k p one last above below = go (legal p) refl
     go : (t : Bool) → legal p ≡ t → cond (legal p) (At (positionIn (bandOfPrice p) p)) Off ≡ Off
     go true e =
         let h = legal-has p (legal-true p e) in
-        let more = price-order k (positionIn (bandOfPrice p) p) (omega arith) (h .from-first) (omega (arith, h .price)) in
-        let less = price-order (positionIn (bandOfPrice p) p) (k + 1) (h .to-last) (omega arith) (omega (arith, h .price)) in
+        let more = price-order k (positionIn (bandOfPrice p) p) (omega arith) (omega (arith, h .price)) in
+        let less = price-order (positionIn (bandOfPrice p) p) (k + 1) (h .to-last) (omega (arith, h .price)) in
         absurd (omega arith)
     go false e = rw e
+
+-- the number of a price's position, with 0 for none, and the price there, with 0 for absent
+pub number-legal : (p : ℕ) → legal p ≡ true → Has p (positionNumber (positionOf p))
+unfolding positionOf
+number-legal p t = rw t (legal-has p (legal-true p t))
+
+pub number-off : (p : ℕ) → legal p ≡ false → positionNumber (positionOf p) ≡ 0
+number-off p t = rw (off-ladder p t)
+
+pub number-to-last : (p : ℕ) → positionNumber (positionOf p) ≤ positions
+number-to-last p = go (legal p) refl
+  where
+    go : (t : Bool) → legal p ≡ t → positionNumber (positionOf p) ≤ positions
+    go true e = number-legal p e .to-last
+    go false e = rw (number-off p e) (lit≤ tt)
+
+pub price-off : (p : ℕ) → legal p ≡ false → priceAt (positionNumber (positionOf p)) ≡ 0
+price-off p t = rw (number-off p t) (price-none-below 0 (lit≤ tt))

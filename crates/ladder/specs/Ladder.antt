@@ -1,8 +1,10 @@
 -- Paper 01, "Prices and the ladder": what the table of bands says of a price and of a position.
 use mathlib.Core.Bool.{Bool, cond, _&&_}
 use mathlib.Core.List.{List, [], _∷_}
-use Prim.Native.Nat.{ℕ, _+_, _-_, _*_, _/_, _%_}
+use mathlib.Core.Path.{_≡_}
+use Prim.Native.Nat.{ℕ, _+_, _-_, _*_, _/_, _%_, _≤_}
 use lib.Dec.{leb, eqb}
+use lib.ListN.{getD}
 use Rattle.ladder.specs.declared.Band.{Band}
 use Rattle.ladder.specs.declared.Position.{Position}
 use Rattle.ladder.specs.declared.Position.the-variants.{At, Off}
@@ -43,3 +45,7 @@ positionNumber Off = 0
 -- 0, the absent price, for a number that is no position
 unfoldable pub priceAt : ℕ → ℕ
 priceAt k = cond (leb 1 k && leb k positions) (priceIn (bandOfPosition k) k) 0
+
+-- "The gate keeps the 1,300 legal prices up to 400.00 as a constant table, and this rule is shown once over all of it."
+pub record StepRule (table : List ℕ) : Type 0 where
+  pub at : (k : ℕ) → 1 ≤ k → k ≤ 1300 → getD table (k - 1) 0 ≡ priceAt k

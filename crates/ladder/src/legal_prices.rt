@@ -1,5 +1,6 @@
 // Paper 01, "Prices and the ladder": the legal prices at the positions 1 to 1,300, in satang.
-pub const LEGAL_PRICES: [u32; 1300] = [
+// In 16 bits, which the last fits: a read builds the whole array, and this one is half as long.
+pub const LEGAL_PRICES: [u16; 1300] = [
     1,
     2,
     3,

@@ -1,7 +1,7 @@
 // Paper 01, "Prices and the ladder": which prices are legal, and at which position each stands.
 ghost use mathlib.Core.Path.{_≡_};
 ghost use Prim.Native.Nat.{_≤_};
-ghost use Rattle.ladder.specs.Ladder.{bandOfPrice, legal, onStep, positionNumber, positionOf, priceAt};
+ghost use Rattle.ladder.specs.Ladder.{StepRule, bandOfPrice, legal, onStep, positionNumber, positionOf, priceAt};
 
 mod legal_prices;
 
@@ -17,6 +17,12 @@ pub struct Band {
 pub enum Position {
     At(u32),
     Off,
+}
+
+// The prices at two positions.
+pub struct PriceRange {
+    pub low: u32,
+    pub high: u32,
 }
 
 pub struct Ladder {}
@@ -64,25 +70,55 @@ impl Ladder {
     pub fn price(position: u32) -> u32
         ensures { λ r. ⌜ r ≡ priceAt position ⌝ }
     {
-        if position < 1 {
-            return 0;
+        Ladder::prices(position, position).low
+    }
+
+    // The one function that reads the table, for both prices at once: a call builds the whole array on its stack (docs/DECISIONS.md).
+    pub fn prices(low: u32, high: u32) -> PriceRange
+        ensures { λ r. ⌜ (r .low ≡ priceAt low) × (r .high ≡ priceAt high) ⌝ }
+    {
+        if (1300 < low) & (1300 < high) {
+            return PriceRange {
+                low: stepped(low),
+                high: stepped(high),
+            };
         }
-        if Ladder::POSITIONS < position {
-            return 0;
+        let table = LEGAL_PRICES;
+        PriceRange {
+            low: tabled(&table, low),
+            high: tabled(&table, high),
         }
-        if position <= 1300 {
-            return tabled(position);
-        }
-        40_000 + 200 * (position - 1300)
     }
 }
 
-// The one function that reads the table: a call builds the whole array on its stack (docs/DECISIONS.md).
-fn tabled(position: u32) -> u32
-    requires { ⌜ (1 ≤ position) × (position ≤ 1300) ⌝ }
+fn tabled(table: &[u16; 1300], position: u32) -> u32
+    requires { ⌜ StepRule (now table) ⌝ }
     ensures { λ r. ⌜ r ≡ priceAt position ⌝ }
 {
-    LEGAL_PRICES[(position - 1) as usize]
+    if position < 1 {
+        return 0;
+    }
+    if 1300 < position {
+        return stepped(position);
+    }
+    wide(table[(position - 1) as usize])
+}
+
+fn wide(price: u16) -> u32
+    ensures { λ r. ⌜ r ≡ price ⌝ }
+{
+    price as u32
+}
+
+// "Above 400.00 positions follow by the step; the last is 51,100."
+fn stepped(position: u32) -> u32
+    requires { ⌜ 1300 ≤ position ⌝ }
+    ensures { λ r. ⌜ r ≡ priceAt position ⌝ }
+{
+    if Ladder::POSITIONS < position {
+        return 0;
+    }
+    40_000 + 200 * (position - 1300)
 }
 
 // Each step is a literal, since a remainder by a number that is known only at run time costs a division.

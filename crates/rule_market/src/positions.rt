@@ -1,5 +1,8 @@
 // Warn 10: ladder positions about a reference price.
 ghost use mathlib.Core.Path.{_≡_};
+ghost use Prim.Native.Nat.{_+_, _-_, min};
+ghost use Rattle.ladder.specs.Bands.{positions};
+ghost use Rattle.ladder.specs.Ladder.{positionOf, positionNumber, priceAt};
 ghost use Rattle.definitions.specs.Rules.{tenApart, warn10};
 ghost use Rattle.rule_market.specs.Covered.{coveredBy10};
 use definitions::MarketView;
@@ -12,13 +15,44 @@ use ladder::Ladder;
 use rule_references::in_auction;
 use rule_references::reference_10;
 
-// In 64 bits, where no position makes the sum wrap.
-fn ten_apart(j: u32, k: u32) -> bool
-    ensures { λ r. ⌜ r ≡ tenApart j k ⌝ }
+// 0, which is no position, where the ladder begins less than ten below.
+fn ten_down(position: u32) -> u32
+    ensures { λ r. ⌜ r ≡ position - 10 ⌝ }
 {
-    let from = j as u64;
-    let to = k as u64;
-    (from + 10 < to) | (to + 10 < from)
+    if position < 10 {
+        return 0;
+    }
+    position - 10
+}
+
+// The last position, where the ladder ends less than ten above.
+fn ten_up(position: u32) -> u32
+    ensures { λ r. ⌜ r ≡ min (position + 10) positions ⌝ }
+{
+    if Ladder::POSITIONS - 10 < position {
+        return Ladder::POSITIONS;
+    }
+    position + 10
+}
+
+// Position 0 has the absent price, and so has a price off the ladder.
+fn on_ladder(price: u32) -> u32
+    ensures { λ r. ⌜ r ≡ priceAt (positionNumber (positionOf price)) ⌝ }
+{
+    if !Ladder::legal(price) {
+        return 0;
+    }
+    price
+}
+
+// Prices stand in the order of their positions: more than ten positions up is above the price that the ladder has there.
+fn ten_apart(reference: u32, price: u32) -> bool
+    ensures { λ r. ⌜ r ≡ tenApart (positionNumber (positionOf reference)) (positionNumber (positionOf price)) ⌝ }
+{
+    let from = Ladder::position_number(Ladder::position(reference));
+    let range = Ladder::prices(ten_down(from), ten_up(from));
+    let to = on_ladder(price);
+    (range.high < to) | (to < range.low)
 }
 
 fn covered_by_10(session: u32, o: Order) -> bool
@@ -39,8 +73,8 @@ pub fn warn_10(m: MarketView, o: Order) -> bool
         return false;
     }
     let reference = reference_10(m.security);
-    let from = Ladder::position_number(Ladder::position(reference));
-    let to = Ladder::position_number(Ladder::position(o.price));
-    let apart = ten_apart(from, to);
-    !(reference == 0) & apart
+    if reference == 0 {
+        return false;
+    }
+    ten_apart(reference, o.price)
 }
