@@ -44,13 +44,13 @@ zeros-part k m less =
     (take-at (zeros deskSize) (zeros rest) deskSize (length-replicate {A = ℕ} deskSize 0))
 
 -- a security's words: "every lot 100 and zeros elsewhere"
-abbrev freshWords : List ℕ
-freshWords = 100 ∷ zeros (securitySize - 1)
+abbrev pub freshSecurity : List ℕ
+freshSecurity = 100 ∷ zeros (securitySize - 1)
 
 module _ (customers securities : ℕ) where
   length-market : length (freshMarket customers securities) ≡ securityPlace securities
   unfolding freshMarket
-  length-market = omega (arith, length-repeated securities freshWords refl)
+  length-market = omega (arith, length-repeated securities freshSecurity refl)
 
   length-fresh : length (fresh customers securities) ≡ deskPlace securities customers
   unfolding fresh
@@ -58,13 +58,13 @@ module _ (customers securities : ℕ) where
       length-append (freshMarket customers securities) (zeros (deskSize * customers))
       ∙ omega (arith, length-market, length-replicate {A = ℕ} (deskSize * customers) 0)
 
-  pub fresh-security : (s : ℕ) → s < securities → securityAt (fresh customers securities) s ≡ securityOf freshWords
+  pub fresh-security : (s : ℕ) → s < securities → securityAt (fresh customers securities) s ≡ securityOf freshSecurity
   unfolding securityAt part fresh freshMarket
   fresh-security s below =
       ap (λ (v : List ℕ). securityOf (take securitySize v)) (sym (drop-drop (securitySize * s) headerSize (fresh customers securities)))
-      ∙ ap securityOf (repeat-part s securities freshWords (zeros (deskSize * customers)) refl below)
+      ∙ ap securityOf (repeat-part s securities freshSecurity (zeros (deskSize * customers)) refl below)
 
-  sound-fresh-security : soundSecurity (securityOf freshWords) ≡ true
+  sound-fresh-security : soundSecurity (securityOf freshSecurity) ≡ true
   unfolding soundSecurity securityOf
   sound-fresh-security = refl
 

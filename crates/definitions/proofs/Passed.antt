@@ -4,14 +4,16 @@ use mathlib.Core.Bool.{Bool, true, false, cond, not}
 use mathlib.Core.List.{List, [], _∷_}
 use mathlib.Core.Path.{_≡_, refl, ap}
 use Prim.Native.Nat.{ℕ}
+use native.Mathlib.Omega.{arith}
 use lib.Dec.{eqb}
 use Rattle.definitions.specs.declared.Event.{Event}
 use Rattle.definitions.specs.declared.Event.the-variants as event
+use Rattle.definitions.specs.declared.Answer.the-variants as answer
 use Rattle.definitions.specs.Lists.{all, firstMet}
 use Rattle.definitions.specs.State.{headerOf, stateFits}
 use Rattle.definitions.specs.Events.{eventIn, bytesConditions}
 use Rattle.definitions.specs.Refusals.{eventConditions}
-use Rattle.definitions.specs.Gate.{viewOf, recordsSound, conditions, perform, refusedOr, outcome}
+use Rattle.definitions.specs.Gate.{answerOf, viewOf, recordsSound, conditions, perform, refusedOr, outcome}
 use Rattle.definitions.proofs.Table.{Numbered, met, unmet, first-append, none-append}
 
 abbrev pub table : List ℕ → Event → List (ℕ × Bool)
@@ -37,6 +39,17 @@ numbered-table w (event.Prices x) = refl
 numbered-table w (event.Order k x) = refl
 numbered-table w (event.Cancel k x) = refl
 numbered-table w (event.Match k x) = refl
+
+-- what an event does is never answered with a refusal
+pub never-refused : (w : List ℕ) (e : Event) (n : ℕ) → answerOf (perform w e) ≡ answer.Refused n → ⊥
+unfolding perform
+never-refused w (event.Clock t) n e = let no : _≡_ {A = ℕ} 0 1 = cc in omega arith
+never-refused w (event.Session s) n e = let no : _≡_ {A = ℕ} 0 1 = cc in omega arith
+never-refused w (event.Setup x) n e = let no : _≡_ {A = ℕ} 0 1 = cc in omega arith
+never-refused w (event.Prices x) n e = let no : _≡_ {A = ℕ} 0 1 = cc in omega arith
+never-refused w (event.Order k x) n e = let no : _≡_ {A = ℕ} 0 1 = cc in omega arith
+never-refused w (event.Cancel k x) n e = let no : _≡_ {A = ℕ} 0 1 = cc in omega arith
+never-refused w (event.Match k x) n e = let no : _≡_ {A = ℕ} 0 1 = cc in omega arith
 
 -- the condition with a number is not met
 pub passed : (n : ℕ) (w : List ℕ) (e : Event) → Passed w e → met n (table w e) ≡ false

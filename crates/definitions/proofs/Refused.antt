@@ -4,11 +4,8 @@ use mathlib.Core.Bool.{Bool, true, false, cond, not, and-eq-true-iff}
 use mathlib.Core.List.{List, [], _∷_}
 use mathlib.Core.Path.{_≡_, refl, ap, sym, subst, _∙_}
 use Prim.Native.Nat.{ℕ}
-use native.Mathlib.Omega.{arith}
 use lib.Dec.{eqb}
 use borrow.Author.Tests.{eqb-true, eqb-false, ne-eqb}
-use Rattle.definitions.specs.declared.Event.{Event}
-use Rattle.definitions.specs.declared.Event.the-variants as event
 use Rattle.definitions.specs.declared.Answer.{Answer}
 use Rattle.definitions.specs.declared.Answer.the-variants as answer
 use Rattle.definitions.specs.Lists.{all, firstMet}
@@ -17,19 +14,8 @@ use Rattle.definitions.specs.Events.{eventIn, bytesConditions}
 use Rattle.definitions.specs.Gate as gate
 use Rattle.definitions.specs.Gate.{answerOf, conditions, perform, refusedOr, outcome, eventAnswer, eventWords}
 use Rattle.definitions.proofs.Table.{inTable, Numbered, none-rest}
-use Rattle.definitions.proofs.Passed.{table, numbered-state, numbered-table}
+use Rattle.definitions.proofs.Passed.{table, never-refused, numbered-state, numbered-table}
 use Rattle.definitions.proofs.Rows.{all-append}
-
--- what an event does is never answered with a refusal
-never-refused : (w : List ℕ) (e : Event) (n : ℕ) → answerOf (perform w e) ≡ answer.Refused n → ⊥
-unfolding perform
-never-refused w (event.Clock t) n e = let no : _≡_ {A = ℕ} 0 1 = cc in omega arith
-never-refused w (event.Session s) n e = let no : _≡_ {A = ℕ} 0 1 = cc in omega arith
-never-refused w (event.Setup x) n e = let no : _≡_ {A = ℕ} 0 1 = cc in omega arith
-never-refused w (event.Prices x) n e = let no : _≡_ {A = ℕ} 0 1 = cc in omega arith
-never-refused w (event.Order k x) n e = let no : _≡_ {A = ℕ} 0 1 = cc in omega arith
-never-refused w (event.Cancel k x) n e = let no : _≡_ {A = ℕ} 0 1 = cc in omega arith
-never-refused w (event.Match k x) n e = let no : _≡_ {A = ℕ} 0 1 = cc in omega arith
 
 pub record Refused (w b : List ℕ) (n : ℕ) : Type 0 where
   pub first : firstMet (conditions w b) ≡ n

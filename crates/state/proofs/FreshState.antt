@@ -11,6 +11,7 @@ use lib.Seq.{set-at, drop-length}
 use borrow.Author.Fill.{fill-more}
 use Rattle.definitions.specs.Lists.{repeat}
 use Rattle.definitions.specs.State.{securitySize, deskSize, stateSize, securityPlace, freshMarket, fresh}
+use Rattle.definitions.proofs.Fresh.{freshSecurity}
 
 -- words repeated
 length-repeat : (n : ℕ) (xs : List ℕ) → length (repeat n xs) ≡ length xs * n
@@ -48,14 +49,11 @@ cleared-end {w₀} {w} {i} h inv =
     inv .words ∙ rw (end, drop-length w₀) (append-nil (replicate (length w₀) 0))
 
 -- a fresh state, one lot after the other
-abbrev listedWords : List ℕ
-listedWords = 100 ∷ replicate (securitySize - 1) 0
-
 abbrev pub lots : ℕ → List ℕ
-lots s = repeat s listedWords
+lots s = repeat s freshSecurity
 
 length-lots : (s : ℕ) → length (lots s) ≡ securitySize * s
-length-lots s = length-repeat s listedWords
+length-lots s = length-repeat s freshSecurity
 
 -- how many words are left behind the first s securities
 abbrev left : ℕ → ℕ → ℕ → ℕ
@@ -86,7 +84,7 @@ listed-next {customers} {securities} {w} {s} h inv =
       words =
           rw (inv .words, zeros)
           (set-at head 0 rest 100 (securityPlace s) place
-          ∙ ap (λ (l : List ℕ). customers ∷ securities ∷ 0 ∷ 0 ∷ l) (repeat-next s listedWords (replicate after 0)));
+          ∙ ap (λ (l : List ℕ). customers ∷ securities ∷ 0 ∷ 0 ∷ l) (repeat-next s freshSecurity (replicate after 0)));
       to = omega arith;
     }
 

@@ -17,7 +17,7 @@ use ladder::Ladder;
 use securities::sound_security;
 use state_records::security_at;
 
-// One function, so that the test of thirteen words is compiled once.
+// One function, so that the test of a security's words is compiled once.
 pub fn sound_security_at(words: &[u32], s: u32) -> bool
     requires { ⌜ securityPlace s + securitySize ≤ length (now words) ⌝ }
     ensures { λ r. ⌜ r ≡ soundSecurityAt (now (words .entry)) s ⌝ }
