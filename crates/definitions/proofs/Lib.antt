@@ -28,6 +28,9 @@ pub mod Demands
 -- the paper's cases
 pub mod Bytes
 pub mod Run
+pub mod Corner
 pub mod Cases
 pub mod Listing
 pub mod Corners
+pub mod SoundCorners
+pub mod MarketCorners

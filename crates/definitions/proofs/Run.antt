@@ -34,3 +34,8 @@ wordsOf customers securities history = wordsFrom (state.fresh customers securiti
 abbrev pub lastOf : List Answer → Answer → Answer
 lastOf [] a = a
 lastOf (b ∷ bs) a = lastOf bs b
+
+-- the answer and the words that one event leaves, over any words
+unfoldable pub resultOn : List ℕ → List ℕ → Answer × List ℕ
+unfolding answersOf
+resultOn w b = gate.resultOf w (gate.outcome w b)
