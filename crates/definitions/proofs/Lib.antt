@@ -34,3 +34,5 @@ pub mod Listing
 pub mod Corners
 pub mod SoundCorners
 pub mod MarketCorners
+pub mod RowCorners
+pub mod DoneCorners
