@@ -4,7 +4,11 @@ use mathlib.Core.List.{List, [], _∷_, _++_, map}
 use mathlib.Core.Path.{_≡_, refl}
 use Prim.Native.Nat.{ℕ, zero, suc, _+_}
 use lib.ListN.{replicate, take}
+use Rattle.definitions.specs.declared.Answer.{Answer}
+use Rattle.definitions.specs.declared.Answer.the-variants as answer
 use Rattle.definitions.specs.declared.Verdict.the-variants.{Accept, RejectS, RejectV}
+use Rattle.definitions.specs.Gate as gate
+use Rattle.definitions.specs.Gate.{answerOf, made}
 use Rattle.definitions.proofs.Bytes.{clock, session, setup, prices, order, cancel, match}
 use Rattle.definitions.proofs.Run.{resultOn}
 use Rattle.definitions.proofs.Corner.{Corner, Entry, found, right, refused, done, verdict, written, joined, state, clockAt, sessionAt, deskAt, rowAt, security, plain, free, traded, untraded, desk, main, foreign, buy, limit, ato, atc, mp, online, entry, bytesOf, opened, cancelled, follows}
@@ -153,3 +157,29 @@ corners =
 pub all-right : map found corners ≡ map right corners
 unfolding resultOn
 all-right = refl
+
+-- 1, "also on making a fresh state": the answer over so many words, for C customers and S securities
+abbrev pub making : ℕ → ℕ → ℕ → Answer
+making words customers securities = answerOf (made (replicate words 7) customers securities)
+
+abbrev pub sizes : List (Answer × Answer)
+sizes =
+    (making 308 1 1, answer.Ok)
+    ∷ (making 307 1 1, answer.Refused 1)
+    ∷ (making 309 1 1, answer.Refused 1)
+    ∷ (making 17 0 1, answer.Refused 1)
+    ∷ (making 295 1 0, answer.Refused 1)
+    ∷ (making 74_513 256 1, answer.Ok)
+    ∷ (making 74_804 257 1, answer.Refused 1)
+    ∷ (making 13_607 1 1_024, answer.Ok)
+    ∷ (making 13_620 1 1_025, answer.Refused 1)
+    ∷ []
+
+pub sizes-right : map (λ (c : Answer × Answer). c .0) sizes ≡ map (λ (c : Answer × Answer). c .1) sizes
+unfolding made
+sizes-right = refl
+
+-- "A fresh state has its C and S, every lot 100 and zeros elsewhere."
+pub fresh-right : made (replicate 612 7) 2 2 ≡ gate.done answer.Ok (2 ∷ 2 ∷ 0 ∷ 0 ∷ 100 ∷ (replicate 12 0 ++ (100 ∷ replicate 594 0)))
+unfolding made resultOn
+fresh-right = refl

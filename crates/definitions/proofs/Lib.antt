@@ -36,3 +36,5 @@ pub mod SoundCorners
 pub mod MarketCorners
 pub mod RowCorners
 pub mod DoneCorners
+pub mod EventCases
+pub mod AnswerCases
