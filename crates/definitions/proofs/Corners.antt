@@ -39,11 +39,12 @@ openRows (suc n) = opened (bought (suc n)) ∷ openRows n
 abbrev pub full : ℕ → List ℕ → List ℕ
 full now last = state now 2 (security free (traded 0 1000 0 5025) untraded ∷ []) (desk (last ∷ openRows 31) ∷ [])
 
--- two of each, each customer with an open row number 1
-abbrev pub pair : List ℕ
-pair =
-    state 5_000 2 (security plain untraded untraded ∷ security plain untraded untraded ∷ [])
-    (desk (opened (bought 1) ∷ []) ∷ desk (opened (bought 1) ∷ []) ∷ [])
+-- one customer and two securities, and the other way round
+abbrev pub wide : List ℕ
+wide = state 5_000 2 (security plain untraded untraded ∷ security plain untraded untraded ∷ []) (desk [] ∷ [])
+
+abbrev pub crowded : List ℕ
+crowded = state 5_000 2 (security plain untraded untraded ∷ []) (desk [] ∷ desk (opened (bought 1) ∷ []) ∷ [])
 
 abbrev pub corners : List Corner
 corners =
@@ -81,8 +82,12 @@ corners =
     ∷ refused held (match 1 1 50) 4
     ∷ refused bare (setup 1 100 0 0 0 0) 4
     ∷ refused bare (prices 1 main 0 0 0 0) 4
-    ∷ refused pair (buys 2 2) 4
-    ∷ refused pair (order 0 2 2 main buy limit online 5000 100) 4
+    ∷ refused wide (buys 1 1) 4
+    ∷ refused crowded (order 0 1 1 main buy limit online 5000 100) 4
+    ∷ refused crowded (setup 1 100 0 0 0 0) 4
+    ∷ refused wide (cancel 1 1) 4
+    ∷ verdict wide (order 0 1 1 main buy limit online 5000 100) Accept (follows (deskAt 2 0) (rowAt 2 0 0) (entry 1 1 main buy limit online 5000 100) Accept)
+    ∷ verdict crowded (buys 1 2) Accept (follows (deskAt 1 1) (rowAt 1 1 1) (bought 2) Accept)
     ∷ refused bare (cancel 1 0) 4
     ∷ refused bare (match 1 0 0) 4
     ∷ refused bare (setup 1 10 0 0 0 0) 4
@@ -137,7 +142,7 @@ corners =
     ∷ refused (heldTill 5_000) (cancel 0 1) 10
     ∷ refused (heldTill 5_000) (match 0 1 50) 10
     ∷ refused held (match 0 2 0) 10
-    ∷ refused pair (cancel 0 2) 10
+    ∷ refused crowded (cancel 0 1) 10
     -- 11
     ∷ refused held (match 0 1 0) 11
     ∷ refused held (match 0 1 101) 11
@@ -180,6 +185,6 @@ unfolding made
 sizes-right = refl
 
 -- "A fresh state has its C and S, every lot 100 and zeros elsewhere."
-pub fresh-right : made (replicate 612 7) 2 2 ≡ gate.done answer.Ok (2 ∷ 2 ∷ 0 ∷ 0 ∷ 100 ∷ (replicate 12 0 ++ (100 ∷ replicate 594 0)))
+pub fresh-right : made (replicate 625 7) 2 3 ≡ gate.done answer.Ok (2 ∷ 3 ∷ 0 ∷ 0 ∷ (joined (replicate 3 (100 ∷ replicate 12 0)) ++ replicate 582 0))
 unfolding made resultOn
 fresh-right = refl

@@ -1,4 +1,5 @@
--- Paper 01, "Events": what each kind does to the words, run on the definitions over two customers and two securities, and one theorem over the whole.
+-- Paper 01, "Events": what each kind does to the words, run on the definitions over two customers and three securities, and one theorem over the
+-- whole.
 use mathlib.Core.List.{List, [], _∷_, _++_, map}
 use mathlib.Core.Path.{_≡_, refl}
 use Prim.Native.Nat.{ℕ, _+_}
@@ -9,19 +10,22 @@ use Rattle.definitions.proofs.Bytes.{clock, session, setup, prices, can
 use Rattle.definitions.proofs.Run.{resultOn}
 use Rattle.definitions.proofs.Corner.{Corner, Changes, Entry, found, right, done, verdict, joined, state, clockAt, sessionAt, securityAt, deskAt, rowAt, security, terms, traded, counting, desk, main, foreign, buy, sell, limit, ato, atc, mp, online, entry, bytesOf, opened, cancelled}
 
--- securities of which no two words are alike that might be taken for each other
+-- three securities, of which no two words are alike that might be taken for each other
 abbrev pub first : List ℕ
 first = security (terms 50 1 1 1000 2001) (traded 5000 5025 4975 5050) (traded 6000 6025 5975 6050)
 
 abbrev pub second : List ℕ
 second = security (terms 100 0 0 1100 2101) (traded 7000 7025 6975 7050) (traded 8000 8025 7975 8050)
 
--- limits of 100 shares and 200 shares, ATO and ATC
+abbrev pub third : List ℕ
+third = security (terms 1 0 1 1200 2201) (traded 9000 9025 8975 9050) (traded 9500 9525 9475 9550)
+
+-- limits of 100 shares and 200 shares, ATO and ATC; security, board and side differ from each other in one of them or another
 abbrev pub bought : ℕ → Entry
-bought number = entry number 0 main buy limit online 4900 100
+bought number = entry number 1 foreign buy limit online 4900 100
 
 abbrev pub sold : ℕ → Entry
-sold number = entry number 1 foreign sell limit online 8100 200
+sold number = entry number 1 main sell limit online 8100 200
 
 abbrev pub atOpen : ℕ → Entry
 atOpen number = entry number 1 main sell ato online 0 300
@@ -50,10 +54,10 @@ free n = replicate n (replicate 9 0)
 
 -- at 100,000 in a session
 abbrev pub words : ℕ → List ℕ
-words now = state 100_000 now (first ∷ second ∷ []) (desk mixed ∷ desk few ∷ [])
+words now = state 100_000 now (first ∷ second ∷ third ∷ []) (desk mixed ∷ desk few ∷ [])
 
 abbrev pub rows : ℕ → List (List ℕ) → ℕ × List ℕ
-rows k after = (rowAt 2 k 0, joined after)
+rows k after = (rowAt 3 k 0, joined after)
 
 -- every projected price absent, and only limits left
 abbrev pub changedSession : ℕ → Changes
@@ -63,6 +67,8 @@ changedSession to =
     ∷ (securityAt 0 + 9, 0 ∷ [])
     ∷ (securityAt 1 + 5, 0 ∷ [])
     ∷ (securityAt 1 + 9, 0 ∷ [])
+    ∷ (securityAt 2 + 5, 0 ∷ [])
+    ∷ (securityAt 2 + 9, 0 ∷ [])
     ∷ rows 0 (opened (bought 1) ∷ cancelled 0 (sold 3) ∷ cancelled 39_999 (bought 5) ∷ opened (sold 6) ∷ cancelled 40_000 (bought 7) ∷ free 3)
     ∷ rows 1 (opened (sold 2) ∷ free 1)
     ∷ []
@@ -108,27 +114,29 @@ corners =
     ∷ done (words 2) (prices 0 main 10_000_000 9_999_800 9_999_600 9_999_400)
     ((securityAt 0 + 5, traded 10_000_000 9_999_800 9_999_600 9_999_400) ∷ [])
     ∷ done (words 2) (prices 1 foreign 1 2 3 4) ((securityAt 1 + 9, traded 1 2 3 4) ∷ [])
-    ∷ done (words 2) (prices 1 main 0 0 0 0) ((securityAt 1 + 5, traded 0 0 0 0) ∷ [])
+    ∷ done (words 2) (prices 2 main 0 0 0 0) ((securityAt 2 + 5, traded 0 0 0 0) ∷ [])
     -- "An accepted or warned order (not MP) first removes that customer's rows cancelled more than 60,000 ms ago, then is added last."
-    ∷ verdict (words 2) (bytesOf 0 ordered) Accept ((deskAt 2 0, 11 ∷ []) ∷ rows 0 (withOrder ordered) ∷ [])
+    ∷ verdict (words 2) (bytesOf 0 ordered) Accept ((deskAt 3 0, 11 ∷ []) ∷ rows 0 (withOrder ordered) ∷ [])
     ∷ verdict (words 2) (bytesOf 0 (entry 9 0 main buy limit online 1000 100)) Warn30
-    ((deskAt 2 0 + 1, 21 ∷ []) ∷ rows 0 (withOrder (entry 9 0 main buy limit online 1000 100)) ∷ [])
+    ((deskAt 3 0 + 1, 21 ∷ []) ∷ rows 0 (withOrder (entry 9 0 main buy limit online 1000 100)) ∷ [])
     ∷ verdict (words 2) (bytesOf 0 (entry 5 0 main buy limit online 4900 100)) Accept
-    ((deskAt 2 0, 11 ∷ []) ∷ rows 0 (withOrder (entry 5 0 main buy limit online 4900 100)) ∷ [])
-    ∷ verdict (words 2) (bytesOf 1 ordered) Accept ((deskAt 2 1, 11 ∷ []) ∷ (rowAt 2 1 2, opened ordered) ∷ [])
+    ((deskAt 3 0, 11 ∷ []) ∷ rows 0 (withOrder (entry 5 0 main buy limit online 4900 100)) ∷ [])
+    ∷ verdict (words 2) (bytesOf 1 ordered) Accept ((deskAt 3 1, 11 ∷ []) ∷ (rowAt 3 1 2, opened ordered) ∷ [])
     -- MP, and a rejected order, leave the rows
-    ∷ verdict (words 2) (bytesOf 0 (entry 9 0 main buy mp online 0 100)) Accept ((deskAt 2 0, 11 ∷ []) ∷ [])
-    ∷ verdict (words 2) (bytesOf 0 (entry 9 0 main buy limit online 4900 0)) RejectV ((deskAt 2 0 + 2, 31 ∷ []) ∷ [])
-    ∷ verdict (words 2) (bytesOf 0 (entry 9 0 main sell limit online 4900 100)) RejectW ((deskAt 2 0 + 2, 31 ∷ []) ∷ [])
+    ∷ verdict (words 2) (bytesOf 0 (entry 9 0 main buy mp online 0 100)) Accept ((deskAt 3 0, 11 ∷ []) ∷ [])
+    ∷ verdict (words 2) (bytesOf 0 (entry 9 0 main buy limit online 4900 0)) RejectV ((deskAt 3 0 + 2, 31 ∷ []) ∷ [])
+    ∷ verdict (words 2) (bytesOf 0 (entry 9 1 foreign sell limit online 4900 100)) RejectW ((deskAt 3 0 + 2, 31 ∷ []) ∷ [])
     -- "A cancel marks an open limit row cancelled at the present clock, and removes an ATO or ATC row."
-    ∷ done (words 2) (cancel 0 6) ((rowAt 2 0 5, cancelled 100_000 (sold 6)) ∷ [])
-    ∷ done (words 2) (cancel 1 2) ((rowAt 2 1 1, cancelled 100_000 (sold 2)) ∷ [])
+    ∷ done (words 2) (cancel 0 6) ((rowAt 3 0 5, cancelled 100_000 (sold 6)) ∷ [])
+    ∷ done (words 2) (cancel 0 1) ((rowAt 3 0 0, cancelled 100_000 (bought 1)) ∷ [])
+    ∷ done (words 2) (cancel 1 2) ((rowAt 3 1 1, cancelled 100_000 (sold 2)) ∷ [])
     ∷ done (words 1) (cancel 0 2)
     (rows 0 (opened (bought 1) ∷ cancelled 0 (sold 3) ∷ opened (atClose 4) ∷ cancelled 39_999 (bought 5) ∷ opened (sold 6) ∷ cancelled 40_000 (bought 7) ∷ opened (atOpen 8) ∷ free 1) ∷ [])
     ∷ done (words 4) (cancel 1 1) (rows 1 (opened (sold 2) ∷ free 1) ∷ [])
     -- "A match lowers the volume; at 0 the row is removed."
-    ∷ done (words 2) (match 0 6 199) ((rowAt 2 0 5, opened (entry 6 1 foreign sell limit online 8100 1)) ∷ [])
-    ∷ done (words 2) (match 0 2 1) ((rowAt 2 0 1, opened (entry 2 1 main sell ato online 0 299)) ∷ [])
+    ∷ done (words 2) (match 0 6 199) ((rowAt 3 0 5, opened (entry 6 1 main sell limit online 8100 1)) ∷ [])
+    ∷ done (words 2) (match 0 1 1) ((rowAt 3 0 0, opened (entry 1 1 foreign buy limit online 4900 99)) ∷ [])
+    ∷ done (words 2) (match 0 2 1) ((rowAt 3 0 1, opened (entry 2 1 main sell ato online 0 299)) ∷ [])
     ∷ done (words 2) (match 1 2 200) (rows 1 (opened (atClose 1) ∷ free 1) ∷ [])
     ∷ done (words 2) (match 0 1 100)
     (rows 0 (opened (atOpen 2) ∷ cancelled 0 (sold 3) ∷ opened (atClose 4) ∷ cancelled 39_999 (bought 5) ∷ opened (sold 6) ∷ cancelled 40_000 (bought 7) ∷ opened (atOpen 8) ∷ free 1) ∷ [])

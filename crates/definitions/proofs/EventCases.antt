@@ -87,13 +87,13 @@ fed-right = refl
 -- events one after another
 abbrev pub kinds : List (List ℕ)
 kinds =
-    clock 1
-    ∷ session 2
-    ∷ setup 3 100 0 0 0 0
-    ∷ prices 4 0 0 0 0 0
-    ∷ order 5 1 0 0 0 0 1 5000 100
-    ∷ cancel 6 1
-    ∷ match 7 1 100
+    clock 2
+    ∷ session 3
+    ∷ setup 4 100 0 0 0 0
+    ∷ prices 5 0 0 0 0 0
+    ∷ order 6 1 0 0 0 0 1 5000 100
+    ∷ cancel 7 1
+    ∷ match 1 1 100
     ∷ []
 
 -- bytes, at most so many events of them, and the events
@@ -101,7 +101,7 @@ abbrev pub walked : List ((ℕ × List ℕ) × List (List ℕ))
 walked =
     ((7, joined kinds), kinds)
     ∷ ((100, joined kinds), kinds)
-    ∷ ((2, joined kinds), clock 1 ∷ session 2 ∷ [])
+    ∷ ((2, joined kinds), clock 2 ∷ session 3 ∷ [])
     ∷ ((0, joined kinds), [])
     ∷ ((3, []), [])
     -- an unknown kind, or fewer bytes than the kind's length, takes what is left
@@ -109,6 +109,7 @@ walked =
     ∷ ((9, session 2 ++ (0 ∷ session 1)), session 2 ∷ (0 ∷ session 1) ∷ [])
     ∷ ((9, session 2 ++ (1 ∷ session 1)), session 2 ∷ (1 ∷ session 1) ∷ [])
     ∷ ((9, 2 ∷ []), (2 ∷ []) ∷ [])
+    ∷ ((9, session 3 ++ session 1), session 3 ∷ session 1 ∷ [])
     ∷ []
 
 pub walked-right : map (λ (c : (ℕ × List ℕ) × List (List ℕ)). split (c .0 .0) (c .0 .1)) walked ≡ map (λ (c : (ℕ × List ℕ) × List (List ℕ)). c .1) walked

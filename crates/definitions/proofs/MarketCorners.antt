@@ -20,7 +20,7 @@ abbrev pub priced : ℕ → ℕ → Entry
 priced channel price = entry 1 0 main buy limit channel price 100
 
 abbrev pub foreignAt : ℕ → ℕ → Entry
-foreignAt channel price = entry 1 0 foreign sell limit channel price 100
+foreignAt channel price = entry 1 0 foreign buy limit channel price 100
 
 abbrev pub sized : ℕ → ℕ → Entry
 sized price volume = entry 1 0 main buy limit office price volume
@@ -164,6 +164,7 @@ corners =
     ∷ meets 1 (security plain (projected 2450) untraded) (priced online 2650) Warn10
     ∷ meets 4 (security plain (projected 2450) untraded) (priced dma 2350) Accept
     ∷ meets 4 (security plain (projected 2450) untraded) (priced dma 2340) Warn10
+    ∷ meets 4 (security plain (projected 2450) untraded) (entry 1 0 main sell limit online 2650 100) Warn10
     ∷ meets 1 (security plain (projected 2450) untraded) (priced office 2650) Accept
     ∷ meets 2 (security plain (projected 2450) untraded) (priced online 2650) Accept
     ∷ meets 1 (security plain (projected 2450) (projected 2450)) (foreignAt online 2650) Accept

@@ -175,8 +175,10 @@ corners =
     ∷ meets 2 untraded (gone 100_000) (entry 2 0 main sell limit online 5000 60_000) Accept
     ∷ meets 2 untraded (gone 100_000) (entry 2 0 main buy limit online 5025 60_000) Accept
     ∷ meets 2 untraded (gone 100_000) (entry 2 0 main buy limit online 4975 61_000) Accept
-    ∷ meets 2 untraded (cancelled 40_000 (entry 1 1 foreign sell limit office 5000 100_000) ∷ [])
-    (entry 2 1 foreign sell limit online 5000 60_000) RejectP
+    ∷ meets 2 untraded (cancelled 40_000 (entry 1 1 main sell limit office 5000 100_000) ∷ [])
+    (entry 2 1 main sell limit online 5000 60_000) RejectP
+    ∷ meets 2 untraded (cancelled 40_000 (entry 1 1 foreign buy limit office 5000 100_000) ∷ [])
+    (entry 2 1 foreign buy limit online 5000 60_000) RejectP
     -- "first that applies": V before W, Q before W, W before P, P before warn 30
     ∷ meets 2 untraded (ownSell 5000) (entry 2 0 main buy limit online 5000 150) RejectV
     ∷ judged 100_000 1 (security free (traded 1000 0 0 0) untraded ∷ []) (ownSell 2000) (buys 2000) RejectQ

@@ -16,25 +16,31 @@ bought number = entry number 0 main buy limit online 5000 100
 abbrev pub buys : ℕ → ℕ → List ℕ
 buys customer number = bytesOf customer (bought number)
 
--- two customers, each with an open row number 1, and two securities; and a security, or the row of a customer, that is not sound
+-- two customers, each with an open row number 1, and three securities; two customers and one security; and a security, or the row of a customer, that
+-- is not sound
 abbrev pub pair : List ℕ
 pair =
-    state 5_000 2 (security plain untraded untraded ∷ security plain untraded untraded ∷ [])
+    state 5_000 2 (replicate 3 (security plain untraded untraded))
     (desk (opened (bought 1) ∷ []) ∷ desk (opened (bought 1) ∷ []) ∷ [])
+
+abbrev pub crowded : List ℕ
+crowded = state 5_000 2 (security plain untraded untraded ∷ []) (desk [] ∷ desk (opened (bought 1) ∷ []) ∷ [])
 
 abbrev pub badSecurity : ℕ → List ℕ
 badSecurity s = written pair (securityAt s) (10 ∷ [])
 
 abbrev pub badDesk : ℕ → List ℕ
-badDesk k = written pair (rowAt 2 k 0) (3 ∷ [])
+badDesk k = written pair (rowAt 3 k 0) (3 ∷ [])
 
 abbrev pub readers : List Corner
 readers =
     -- a session event reads every record, also where the session stays
     refused (badSecurity 0) (session 2) 8
     ∷ refused (badSecurity 1) (session 2) 8
+    ∷ refused (badSecurity 2) (session 2) 8
     ∷ refused (badDesk 0) (session 2) 8
     ∷ refused (badDesk 1) (session 1) 8
+    ∷ refused (written crowded (rowAt 1 1 0) (3 ∷ [])) (session 2) 8
     -- setup and prices read the security, and an order the security and its customer's desk
     ∷ refused (badSecurity 0) (setup 0 100 0 0 0 0) 8
     ∷ refused (badSecurity 1) (prices 1 main 0 0 0 0) 8
@@ -51,14 +57,14 @@ readers =
     ∷ done (badSecurity 0) (setup 1 50 0 0 0 0) ((securityAt 1, 50 ∷ []) ∷ [])
     ∷ done (badSecurity 1) (prices 0 main 5000 0 0 0) ((securityAt 0, 100 ∷ 0 ∷ 0 ∷ 0 ∷ 0 ∷ 5000 ∷ []) ∷ [])
     ∷ done (badDesk 0) (setup 0 50 0 0 0 0) ((securityAt 0, 50 ∷ []) ∷ [])
-    ∷ verdict (badSecurity 1) (buys 0 2) Accept (follows (deskAt 2 0) (rowAt 2 0 1) (bought 2) Accept)
-    ∷ verdict (badDesk 1) (buys 0 2) Accept (follows (deskAt 2 0) (rowAt 2 0 1) (bought 2) Accept)
-    ∷ verdict (badDesk 0) (buys 1 2) Accept (follows (deskAt 2 1) (rowAt 2 1 1) (bought 2) Accept)
-    ∷ done (badSecurity 0) (cancel 0 1) ((rowAt 2 0 0, cancelled 5_000 (bought 1)) ∷ [])
-    ∷ done (badDesk 0) (cancel 1 1) ((rowAt 2 1 0, cancelled 5_000 (bought 1)) ∷ [])
-    ∷ done (badDesk 1) (match 0 1 100) ((rowAt 2 0 0, replicate 9 0) ∷ [])
+    ∷ verdict (badSecurity 1) (buys 0 2) Accept (follows (deskAt 3 0) (rowAt 3 0 1) (bought 2) Accept)
+    ∷ verdict (badDesk 1) (buys 0 2) Accept (follows (deskAt 3 0) (rowAt 3 0 1) (bought 2) Accept)
+    ∷ verdict (badDesk 0) (buys 1 2) Accept (follows (deskAt 3 1) (rowAt 3 1 1) (bought 2) Accept)
+    ∷ done (badSecurity 0) (cancel 0 1) ((rowAt 3 0 0, cancelled 5_000 (bought 1)) ∷ [])
+    ∷ done (badDesk 0) (cancel 1 1) ((rowAt 3 1 0, cancelled 5_000 (bought 1)) ∷ [])
+    ∷ done (badDesk 1) (match 0 1 100) ((rowAt 3 0 0, replicate 9 0) ∷ [])
     -- 4 to 7 come before it, and it before 9 and 10
-    ∷ refused (badSecurity 0) (setup 2 100 0 0 0 0) 4
+    ∷ refused (badSecurity 0) (setup 3 100 0 0 0 0) 4
     ∷ refused (badDesk 0) (cancel 0 0) 5
     ∷ refused (badSecurity 0) (order 0 2 0 main buy limit online 5001 100) 6
     ∷ refused (badSecurity 0) (buys 0 1) 8
