@@ -140,21 +140,21 @@ pub record Entry : Type 0 where
   pub security : ℕ
   pub board : ℕ
   pub side : ℕ
-  pub kind : ℕ
+  pub «order_type» : ℕ
   pub channel : ℕ
   pub price : ℕ
   pub volume : ℕ
 
 abbrev pub entry : ℕ → ℕ → ℕ → ℕ → ℕ → ℕ → ℕ → ℕ → Entry
-entry number security board side kind channel price volume =
-    record { number = number; security = security; board = board; side = side; kind = kind; channel = channel; price = price; volume = volume }
+entry number security board side type channel price volume =
+    record { number = number; security = security; board = board; side = side; «order_type» = type; channel = channel; price = price; volume = volume }
 
 abbrev pub bytesOf : ℕ → Entry → List ℕ
-bytesOf k e = bytes.order k (e .number) (e .security) (e .board) (e .side) (e .kind) (e .channel) (e .price) (e .volume)
+bytesOf k e = bytes.order k (e .number) (e .security) (e .board) (e .side) (e .«order_type») (e .channel) (e .price) (e .volume)
 
 -- its row's words, open, and cancelled at a time
 abbrev pub rowOf : ℕ → ℕ → Entry → List ℕ
-rowOf mark time e = mark ∷ e .number ∷ e .security ∷ e .board ∷ e .side ∷ e .kind ∷ e .price ∷ e .volume ∷ time ∷ []
+rowOf mark time e = mark ∷ e .number ∷ e .security ∷ e .board ∷ e .side ∷ e .«order_type» ∷ e .price ∷ e .volume ∷ time ∷ []
 
 abbrev pub opened : Entry → List ℕ
 opened e = rowOf 1 0 e
@@ -167,7 +167,7 @@ abbrev pub rejects : ℕ → Changes
 rejects desk = (desk + 2, 31 ∷ []) ∷ []
 
 abbrev pub takes : ℕ × ℕ → ℕ → Entry → Changes
-takes counter place e = (counter .0, counter .1 ∷ []) ∷ cond (eqb (e .kind) mp) [] ((place, opened e) ∷ [])
+takes counter place e = (counter .0, counter .1 ∷ []) ∷ cond (eqb (e .«order_type») mp) [] ((place, opened e) ∷ [])
 
 abbrev pub follows : ℕ → ℕ → Entry → Verdict → Changes
 follows desk row e RejectS = rejects desk

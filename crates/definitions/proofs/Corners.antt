@@ -10,8 +10,8 @@ use Rattle.definitions.specs.declared.Verdict.the-variants.{Accept, Reje
 use Rattle.definitions.specs.Gate as gate
 use Rattle.definitions.specs.Gate.{answerOf, made}
 use Rattle.definitions.proofs.Bytes.{clock, session, setup, prices, order, cancel, match}
-use Rattle.definitions.proofs.Run.{resultOn}
-use Rattle.definitions.proofs.Corner.{Corner, Entry, found, right, refused, done, verdict, written, joined, state, clockAt, sessionAt, deskAt, rowAt, security, plain, free, traded, untraded, desk, main, foreign, buy, limit, ato, atc, mp, online, entry, bytesOf, opened, cancelled, follows}
+use Rattle.definitions.proofs.Run.{resultOn, wordsOf}
+use Rattle.definitions.proofs.Corner.{Corner, Entry, found, right, refused, done, verdict, written, joined, state, clockAt, sessionAt, deskAt, rowAt, security, plain, free, traded, untraded, counting, desk, main, foreign, buy, limit, ato, atc, mp, online, entry, bytesOf, opened, cancelled, follows}
 
 -- limit buys of 100 shares at 50.00 in security 0, online
 abbrev pub bought : ℕ → Entry
@@ -28,23 +28,32 @@ abbrev pub held : List ℕ
 held = state 5_000 2 (security plain untraded untraded ∷ []) (desk (opened (bought 1) ∷ []) ∷ [])
 
 -- the row cancelled at 5,000, and a later clock
-abbrev pub heldTill : ℕ → List ℕ
-heldTill now = state now 2 (security plain untraded untraded ∷ []) (desk (cancelled 5_000 (bought 1) ∷ []) ∷ [])
+abbrev pub cancelledRow : ℕ → List ℕ
+cancelledRow now = state now 2 (security plain untraded untraded ∷ []) (desk (cancelled 5_000 (bought 1) ∷ []) ∷ [])
 
--- 31 open rows and another one, a best offer, and a clock
+-- a row and 31 open ones, a best offer, and a clock
 abbrev pub openRows : ℕ → List (List ℕ)
 openRows zero = []
-openRows (suc n) = opened (bought (suc n)) ∷ openRows n
+openRows (suc n) = openRows n ++ (opened (bought (suc n)) ∷ [])
 
 abbrev pub full : ℕ → List ℕ → List ℕ
-full now last = state now 2 (security free (traded 0 1000 0 5025) untraded ∷ []) (desk (last ∷ openRows 31) ∷ [])
+full now first = state now 2 (security free (traded 0 1000 0 5025) untraded ∷ []) (desk (first ∷ openRows 31) ∷ [])
+
+-- 32 orders leave such a desk
+abbrev pub orders : ℕ → List (List ℕ)
+orders zero = []
+orders (suc n) = orders n ++ (buys 0 (suc n) ∷ [])
+
+pub full-words : wordsOf 1 1 (session 2 ∷ buys 0 32 ∷ orders 31) ≡ state 0 2 (security plain untraded untraded ∷ []) (counting 32 0 0 (opened (bought 32) ∷ openRows 31) ∷ [])
+unfolding wordsOf
+full-words = refl
 
 -- one customer and two securities, and the other way round
-abbrev pub wide : List ℕ
-wide = state 5_000 2 (security plain untraded untraded ∷ security plain untraded untraded ∷ []) (desk [] ∷ [])
+abbrev pub twoSecurities : List ℕ
+twoSecurities = state 5_000 2 (security plain untraded untraded ∷ security plain untraded untraded ∷ []) (desk [] ∷ [])
 
-abbrev pub crowded : List ℕ
-crowded = state 5_000 2 (security plain untraded untraded ∷ []) (desk [] ∷ desk (opened (bought 1) ∷ []) ∷ [])
+abbrev pub twoCustomers : List ℕ
+twoCustomers = state 5_000 2 (security plain untraded untraded ∷ []) (desk [] ∷ desk (opened (bought 1) ∷ []) ∷ [])
 
 abbrev pub corners : List Corner
 corners =
@@ -82,12 +91,12 @@ corners =
     ∷ refused held (match 1 1 50) 4
     ∷ refused bare (setup 1 100 0 0 0 0) 4
     ∷ refused bare (prices 1 main 0 0 0 0) 4
-    ∷ refused wide (buys 1 1) 4
-    ∷ refused crowded (order 0 1 1 main buy limit online 5000 100) 4
-    ∷ refused crowded (setup 1 100 0 0 0 0) 4
-    ∷ refused wide (cancel 1 1) 4
-    ∷ verdict wide (order 0 1 1 main buy limit online 5000 100) Accept (follows (deskAt 2 0) (rowAt 2 0 0) (entry 1 1 main buy limit online 5000 100) Accept)
-    ∷ verdict crowded (buys 1 2) Accept (follows (deskAt 1 1) (rowAt 1 1 1) (bought 2) Accept)
+    ∷ refused twoSecurities (buys 1 1) 4
+    ∷ refused twoCustomers (order 0 1 1 main buy limit online 5000 100) 4
+    ∷ refused twoCustomers (setup 1 100 0 0 0 0) 4
+    ∷ refused twoSecurities (cancel 1 1) 4
+    ∷ verdict twoSecurities (order 0 1 1 main buy limit online 5000 100) Accept (follows (deskAt 2 0) (rowAt 2 0 0) (entry 1 1 main buy limit online 5000 100) Accept)
+    ∷ verdict twoCustomers (buys 1 2) Accept (follows (deskAt 1 1) (rowAt 1 1 1) (bought 2) Accept)
     ∷ refused bare (cancel 1 0) 4
     ∷ refused bare (match 1 0 0) 4
     ∷ refused bare (setup 1 10 0 0 0 0) 4
@@ -135,14 +144,14 @@ corners =
     -- 9: for MP too; a cancelled row holds its number for 60,000 ms
     ∷ refused held (buys 0 1) 9
     ∷ refused held (order 0 1 0 main buy mp online 0 100) 9
-    ∷ refused (heldTill 65_000) (buys 0 1) 9
-    ∷ verdict (heldTill 65_001) (buys 0 1) Accept (follows (deskAt 1 0) (rowAt 1 0 0) (bought 1) Accept)
+    ∷ refused (cancelledRow 65_000) (buys 0 1) 9
+    ∷ verdict (cancelledRow 65_001) (buys 0 1) Accept (follows (deskAt 1 0) (rowAt 1 0 0) (bought 1) Accept)
     -- 10: a cancelled row is not open; and before 11
     ∷ refused held (cancel 0 2) 10
-    ∷ refused (heldTill 5_000) (cancel 0 1) 10
-    ∷ refused (heldTill 5_000) (match 0 1 50) 10
+    ∷ refused (cancelledRow 5_000) (cancel 0 1) 10
+    ∷ refused (cancelledRow 5_000) (match 0 1 50) 10
     ∷ refused held (match 0 2 0) 10
-    ∷ refused crowded (cancel 0 1) 10
+    ∷ refused twoCustomers (cancel 0 1) 10
     -- 11
     ∷ refused held (match 0 1 0) 11
     ∷ refused held (match 0 1 101) 11

@@ -3,8 +3,7 @@
 use mathlib.Core.List.{List, [], _∷_, _++_, map}
 use mathlib.Core.Path.{_≡_, refl}
 use Prim.Native.Nat.{ℕ, _+_}
-use lib.ListN.{replicate}
-use Rattle.definitions.specs.declared.Verdict.{Verdict}
+use lib.ListN.{drop, replicate}
 use Rattle.definitions.specs.declared.Verdict.the-variants.{RejectV, RejectW, Warn30, Accept}
 use Rattle.definitions.proofs.Bytes.{clock, session, setup, prices, cancel, match}
 use Rattle.definitions.proofs.Run.{resultOn}
@@ -49,8 +48,8 @@ mixed =
 abbrev pub few : List (List ℕ)
 few = opened (atClose 1) ∷ opened (sold 2) ∷ []
 
-abbrev pub free : ℕ → List (List ℕ)
-free n = replicate n (replicate 9 0)
+abbrev pub freeRows : ℕ → List (List ℕ)
+freeRows n = replicate n (replicate 9 0)
 
 -- at 100,000 in a session
 abbrev pub words : ℕ → List ℕ
@@ -69,8 +68,8 @@ changedSession to =
     ∷ (securityAt 1 + 9, 0 ∷ [])
     ∷ (securityAt 2 + 5, 0 ∷ [])
     ∷ (securityAt 2 + 9, 0 ∷ [])
-    ∷ rows 0 (opened (bought 1) ∷ cancelled 0 (sold 3) ∷ cancelled 39_999 (bought 5) ∷ opened (sold 6) ∷ cancelled 40_000 (bought 7) ∷ free 3)
-    ∷ rows 1 (opened (sold 2) ∷ free 1)
+    ∷ rows 0 (opened (bought 1) ∷ cancelled 0 (sold 3) ∷ cancelled 39_999 (bought 5) ∷ opened (sold 6) ∷ cancelled 40_000 (bought 7) ∷ freeRows 3)
+    ∷ rows 1 (opened (sold 2) ∷ freeRows 1)
     ∷ []
 
 -- an order of 100 shares in security 1, which stands last where those cancelled more than 60,000 ms ago have gone
@@ -86,7 +85,7 @@ withOrder e =
     ∷ cancelled 40_000 (bought 7)
     ∷ opened (atOpen 8)
     ∷ opened e
-    ∷ free 1
+    ∷ freeRows 1
 
 -- one customer without rows and with some counters, in session 2
 abbrev pub counters : ℕ → ℕ → ℕ → List ℕ
@@ -131,15 +130,15 @@ corners =
     ∷ done (words 2) (cancel 0 1) ((rowAt 3 0 0, cancelled 100_000 (bought 1)) ∷ [])
     ∷ done (words 2) (cancel 1 2) ((rowAt 3 1 1, cancelled 100_000 (sold 2)) ∷ [])
     ∷ done (words 1) (cancel 0 2)
-    (rows 0 (opened (bought 1) ∷ cancelled 0 (sold 3) ∷ opened (atClose 4) ∷ cancelled 39_999 (bought 5) ∷ opened (sold 6) ∷ cancelled 40_000 (bought 7) ∷ opened (atOpen 8) ∷ free 1) ∷ [])
-    ∷ done (words 4) (cancel 1 1) (rows 1 (opened (sold 2) ∷ free 1) ∷ [])
+    (rows 0 (opened (bought 1) ∷ (drop 2 mixed ++ freeRows 1)) ∷ [])
+    ∷ done (words 4) (cancel 1 1) (rows 1 (opened (sold 2) ∷ freeRows 1) ∷ [])
     -- "A match lowers the volume; at 0 the row is removed."
     ∷ done (words 2) (match 0 6 199) ((rowAt 3 0 5, opened (entry 6 1 main sell limit online 8100 1)) ∷ [])
     ∷ done (words 2) (match 0 1 1) ((rowAt 3 0 0, opened (entry 1 1 foreign buy limit online 4900 99)) ∷ [])
     ∷ done (words 2) (match 0 2 1) ((rowAt 3 0 1, opened (entry 2 1 main sell ato online 0 299)) ∷ [])
-    ∷ done (words 2) (match 1 2 200) (rows 1 (opened (atClose 1) ∷ free 1) ∷ [])
+    ∷ done (words 2) (match 1 2 200) (rows 1 (opened (atClose 1) ∷ freeRows 1) ∷ [])
     ∷ done (words 2) (match 0 1 100)
-    (rows 0 (opened (atOpen 2) ∷ cancelled 0 (sold 3) ∷ opened (atClose 4) ∷ cancelled 39_999 (bought 5) ∷ opened (sold 6) ∷ cancelled 40_000 (bought 7) ∷ opened (atOpen 8) ∷ free 1) ∷ [])
+    (rows 0 (drop 1 mixed ++ freeRows 1) ∷ [])
     -- "each stays at 4,294,967,295 once there"
     ∷ verdict (counters 4_294_967_294 1 2) (bytesOf 0 (limits 5000 100)) Accept ((deskAt 1 0, 4_294_967_295 ∷ []) ∷ (rowAt 1 0 0, opened (limits 5000 100)) ∷ [])
     ∷ verdict (counters 4_294_967_295 1 2) (bytesOf 0 (limits 5000 100)) Accept ((rowAt 1 0 0, opened (limits 5000 100)) ∷ [])

@@ -2,7 +2,7 @@
 use mathlib.Core.Bool.{Bool, true, false}
 use mathlib.Core.List.{List, [], _∷_, _++_, map}
 use mathlib.Core.Path.{_≡_, refl}
-use Prim.Native.Nat.{ℕ}
+use Prim.Native.Nat.{ℕ, zero, suc}
 use lib.ListN.{take}
 use Rattle.definitions.specs.declared.Event.{Event}
 use Rattle.definitions.specs.declared.Event.the-variants as event
@@ -13,16 +13,50 @@ use Rattle.definitions.proofs.Bytes.{clock, session, setup, prices, ord
 use Rattle.definitions.proofs.Run.{answersOf}
 use Rattle.definitions.proofs.Corner.{joined}
 
--- bytes that count up, so that each field has a number of its own: two of them from 1 on are 1 + 256 × 2
+-- bytes 1, 2, 3 and so on, so that each field has a number of its own: two from 1 on are 1 + 256 × 2
+abbrev pub ascending : ℕ → List ℕ
+ascending zero = []
+ascending (suc n) = ascending n ++ (suc n ∷ [])
+
 abbrev pub read : List (List ℕ × Event)
 read =
-    (1 ∷ 1 ∷ 2 ∷ 3 ∷ 4 ∷ [], event.Clock 67_305_985)
-    ∷ (2 ∷ 1 ∷ [], event.Session 1)
-    ∷ (3 ∷ 1 ∷ 2 ∷ 3 ∷ 4 ∷ 5 ∷ 6 ∷ 7 ∷ 8 ∷ 9 ∷ 10 ∷ 11 ∷ 12 ∷ 13 ∷ [], event.Setup (record { security = 513; terms = record { lot = 3; free = 4; «first_day» = 5 }; prior = record { close = 151_521_030; ipo = 218_893_066 } }))
-    ∷ (4 ∷ 1 ∷ 2 ∷ 3 ∷ 4 ∷ 5 ∷ 6 ∷ 7 ∷ 8 ∷ 9 ∷ 10 ∷ 11 ∷ 12 ∷ 13 ∷ 14 ∷ 15 ∷ 16 ∷ 17 ∷ 18 ∷ 19 ∷ [], event.Prices (record { security = 513; board = 3; prices = record { projected = 117_835_012; «last_sale» = 185_207_048; bid = 252_579_084; offer = 319_951_120 } }))
-    ∷ (5 ∷ 1 ∷ 2 ∷ 3 ∷ 4 ∷ 5 ∷ 6 ∷ 7 ∷ 8 ∷ 9 ∷ 10 ∷ 11 ∷ 12 ∷ 13 ∷ 14 ∷ 15 ∷ 16 ∷ 17 ∷ 18 ∷ 19 ∷ 20 ∷ [], event.Order 513 (record { number = 100_992_003; security = 2_055; board = 9; side = 10; «order_type» = 11; channel = 12; price = 269_422_093; volume = 336_794_129 }))
-    ∷ (6 ∷ 1 ∷ 2 ∷ 3 ∷ 4 ∷ 5 ∷ 6 ∷ [], event.Cancel 513 (record { number = 100_992_003 }))
-    ∷ (7 ∷ 1 ∷ 2 ∷ 3 ∷ 4 ∷ 5 ∷ 6 ∷ 7 ∷ 8 ∷ 9 ∷ 10 ∷ [], event.Match 513 (record { number = 100_992_003; volume = 168_364_039 }))
+    (1 ∷ ascending 4, event.Clock 67_305_985)
+    ∷ (2 ∷ ascending 1, event.Session 1)
+    ∷ (
+      3 ∷ ascending 13,
+      event.Setup
+          (record {
+            security = 513;
+            terms = record { lot = 3; free = 4; «first_day» = 5 };
+            prior = record { close = 151_521_030; ipo = 218_893_066 };
+          }),
+    )
+    ∷ (
+      4 ∷ ascending 19,
+      event.Prices
+          (record {
+            security = 513;
+            board = 3;
+            prices = record { projected = 117_835_012; «last_sale» = 185_207_048; bid = 252_579_084; offer = 319_951_120 };
+          }),
+    )
+    ∷ (
+      5 ∷ ascending 20,
+      event.Order
+          513
+          (record {
+            number = 100_992_003;
+            security = 2_055;
+            board = 9;
+            side = 10;
+            «order_type» = 11;
+            channel = 12;
+            price = 269_422_093;
+            volume = 336_794_129;
+          }),
+    )
+    ∷ (6 ∷ ascending 6, event.Cancel 513 (record { number = 100_992_003 }))
+    ∷ (7 ∷ ascending 10, event.Match 513 (record { number = 100_992_003; volume = 168_364_039 }))
     ∷ []
 
 pub read-right : map (λ (c : List ℕ × Event). eventIn (c .0)) read ≡ map (λ (c : List ℕ × Event). c .1) read

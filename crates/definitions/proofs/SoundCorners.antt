@@ -7,24 +7,14 @@ use lib.ListN.{replicate}
 use Rattle.definitions.specs.declared.Verdict.the-variants.{Accept}
 use Rattle.definitions.proofs.Bytes.{clock, session, setup, prices, order, cancel, match}
 use Rattle.definitions.proofs.Run.{resultOn}
-use Rattle.definitions.proofs.Corner.{Corner, Entry, found, right, refused, done, verdict, written, state, clockAt, securityAt, deskAt, rowAt, security, terms, traded, plain, untraded, desk, main, foreign, buy, sell, limit, ato, atc, online, entry, bytesOf, opened, cancelled, follows}
+use Rattle.definitions.proofs.Corners.{bought, buys, twoCustomers}
+use Rattle.definitions.proofs.Corner.{Corner, found, right, refused, done, verdict, written, state, clockAt, securityAt, deskAt, rowAt, security, terms, traded, plain, untraded, desk, main, foreign, buy, sell, limit, ato, atc, online, opened, cancelled, follows}
 
--- limit buys of 100 shares at 50.00 in security 0, online
-abbrev pub bought : ℕ → Entry
-bought number = entry number 0 main buy limit online 5000 100
-
-abbrev pub buys : ℕ → ℕ → List ℕ
-buys customer number = bytesOf customer (bought number)
-
--- two customers, each with an open row number 1, and three securities; two customers and one security; and a security, or the row of a customer, that
--- is not sound
+-- two customers, each with an open row number 1, and three securities; and a security, or the row of a customer, that is not sound
 abbrev pub pair : List ℕ
 pair =
     state 5_000 2 (replicate 3 (security plain untraded untraded))
     (desk (opened (bought 1) ∷ []) ∷ desk (opened (bought 1) ∷ []) ∷ [])
-
-abbrev pub crowded : List ℕ
-crowded = state 5_000 2 (security plain untraded untraded ∷ []) (desk [] ∷ desk (opened (bought 1) ∷ []) ∷ [])
 
 abbrev pub badSecurity : ℕ → List ℕ
 badSecurity s = written pair (securityAt s) (10 ∷ [])
@@ -40,7 +30,7 @@ readers =
     ∷ refused (badSecurity 2) (session 2) 8
     ∷ refused (badDesk 0) (session 2) 8
     ∷ refused (badDesk 1) (session 1) 8
-    ∷ refused (written crowded (rowAt 1 1 0) (3 ∷ [])) (session 2) 8
+    ∷ refused (written twoCustomers (rowAt 1 1 0) (3 ∷ [])) (session 2) 8
     -- setup and prices read the security, and an order the security and its customer's desk
     ∷ refused (badSecurity 0) (setup 0 100 0 0 0 0) 8
     ∷ refused (badSecurity 1) (prices 1 main 0 0 0 0) 8
