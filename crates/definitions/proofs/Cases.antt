@@ -1,7 +1,7 @@
 -- Paper 01, "Along each edge": the cases marked to be proved, as entries of one table, and one theorem over the whole.
 use mathlib.Core.List.{List, [], _∷_, _++_, map}
 use mathlib.Core.Path.{_≡_, refl}
-use Prim.Native.Nat.{ℕ}
+use Prim.Native.Nat.{ℕ, _+_}
 use Rattle.ladder.specs.declared.Position.{Position}
 use Rattle.ladder.specs.declared.Position.the-variants.{At}
 use Rattle.ladder.specs.Ladder.{positionOf, legal, bandOfPrice, lastBand}
@@ -62,9 +62,9 @@ auction = session 1 ∷ prices 0 0 2450 0 0 0 ∷ []
 abbrev pub ownSell : List (List ℕ)
 ownSell = session 2 ∷ onlineSell 1 5000 100 ∷ []
 
--- session 2, a buy of some volume at 50.00, cancelled at once, then a later clock
+-- session 2, a buy of some volume at 50.00, cancelled at once, at 10:00, then a later clock
 abbrev pub cancelledAgo : ℕ → ℕ → List (List ℕ)
-cancelledAgo volume ago = session 2 ∷ onlineBuy 1 5000 volume ∷ cancel 0 1 ∷ clock ago ∷ []
+cancelledAgo volume ago = clock 36_000_000 ∷ session 2 ∷ onlineBuy 1 5000 volume ∷ cancel 0 1 ∷ clock (36_000_000 + ago) ∷ []
 
 abbrev pub openSession : List (List ℕ)
 openSession = session 2 ∷ []

@@ -1,153 +1,199 @@
--- Paper 01, "Where an event is turned back": the corners of the table, run on the definitions, and one theorem over the whole. The state has one customer
--- and one security.
+-- Paper 01, "Where an event is turned back": the corners of the table, run on the definitions, and one theorem over the whole. What else condition 8 asks of
+-- a record is in SoundCorners.antt.
 use mathlib.Core.List.{List, [], _∷_, _++_, map}
 use mathlib.Core.Path.{_≡_, refl}
-use Prim.Native.Nat.{ℕ, zero, suc, _+_, _*_}
-use lib.ListN.{set}
+use Prim.Native.Nat.{ℕ, zero, suc, _+_}
+use lib.ListN.{replicate, take}
 use Rattle.definitions.specs.declared.Answer.{Answer}
 use Rattle.definitions.specs.declared.Answer.the-variants as answer
 use Rattle.definitions.specs.declared.Verdict.the-variants.{Accept, RejectS, RejectV}
-use Rattle.definitions.specs.State.{rowSize, countersSize, deskPlace, securityPlace}
+use Rattle.definitions.specs.Gate as gate
+use Rattle.definitions.specs.Gate.{answerOf, made}
 use Rattle.definitions.proofs.Bytes.{clock, session, setup, prices, order, cancel, match}
-use Rattle.definitions.proofs.Run.{answersOf, answerOn, wordsFrom, wordsOf}
+use Rattle.definitions.proofs.Run.{resultOn, wordsOf}
+use Rattle.definitions.proofs.Corner.{Corner, Entry, found, right, refused, done, verdict, written, joined, state, clockAt, sessionAt, deskAt, rowAt, security, plain, free, traded, untraded, counting, desk, main, foreign, buy, limit, ato, atc, mp, online, entry, bytesOf, opened, cancelled, follows}
 
--- the words that an event meets, the event, and the right answer
-pub record Corner : Type 0 where
-  pub words : List ℕ
-  pub event : List ℕ
-  pub right : Answer
+-- limit buys of 100 shares at 50.00 in security 0, online
+abbrev pub bought : ℕ → Entry
+bought number = entry number 0 main buy limit online 5000 100
 
--- the words after a history from a fresh state
-abbrev pub met : List (List ℕ) → List ℕ → Answer → Corner
-met before event right = record { words = wordsOf 1 1 before; event = event; right = right }
+abbrev pub buys : ℕ → ℕ → List ℕ
+buys customer number = bytesOf customer (bought number)
 
--- and one of them set to another value
-abbrev pub damaged : List (List ℕ) → ℕ → ℕ → List ℕ → Answer → Corner
-damaged before place value event right = record { words = set (wordsOf 1 1 before) place value; event = event; right = right }
+-- one customer, one security, session 2, the clock at 5,000: no row, and an open row number 1
+abbrev pub bare : List ℕ
+bare = state 5_000 2 (security plain untraded untraded ∷ []) (desk [] ∷ [])
 
--- where the desk's rows stand
-abbrev pub rowPlace : ℕ → ℕ
-rowPlace i = deskPlace 1 0 + countersSize + rowSize * i
+abbrev pub held : List ℕ
+held = state 5_000 2 (security plain untraded untraded ∷ []) (desk (opened (bought 1) ∷ []) ∷ [])
 
--- limit buys of 100 shares at 50.00, online, and other types without a price
-abbrev pub buy : ℕ → List ℕ
-buy number = order 0 number 0 0 0 0 1 5000 100
+-- the row cancelled at 5,000, and a later clock
+abbrev pub cancelledRow : ℕ → List ℕ
+cancelledRow now = state now 2 (security plain untraded untraded ∷ []) (desk (cancelled 5_000 (bought 1) ∷ []) ∷ [])
 
-abbrev pub typed : ℕ → ℕ → List ℕ
-typed number type = order 0 number 0 0 0 type 1 0 100
-
-abbrev pub buys : ℕ → List (List ℕ)
-buys zero = []
-buys (suc n) = buys n ++ (buy (suc n) ∷ [])
-
-abbrev pub opened : List (List ℕ)
-opened = session 2 ∷ []
-
-abbrev pub held : List (List ℕ)
-held = session 2 ∷ buy 1 ∷ []
-
--- session 2 with a best offer, and a desk of 32 open rows; its words are written out, so that the cases of 12 do not run the 32 orders each
-abbrev pub filling : List (List ℕ)
-filling = session 2 ∷ prices 0 0 0 0 0 5025 ∷ buys 32
-
-abbrev pub openRows : ℕ → List ℕ
+-- a row and 31 open ones, a best offer, and a clock
+abbrev pub openRows : ℕ → List (List ℕ)
 openRows zero = []
-openRows (suc n) = openRows n ++ (1 ∷ suc n ∷ 0 ∷ 0 ∷ 0 ∷ 0 ∷ 5000 ∷ 100 ∷ 0 ∷ [])
+openRows (suc n) = openRows n ++ (opened (bought (suc n)) ∷ [])
 
-abbrev pub fullWords : List ℕ
-fullWords = 1 ∷ 1 ∷ 0 ∷ 2 ∷ 100 ∷ 0 ∷ 0 ∷ 0 ∷ 0 ∷ 0 ∷ 0 ∷ 0 ∷ 5025 ∷ 0 ∷ 0 ∷ 0 ∷ 0 ∷ 32 ∷ 0 ∷ 0 ∷ openRows 32
+abbrev pub full : ℕ → List ℕ → List ℕ
+full now first = state now 2 (security free (traded 0 1000 0 5025) untraded ∷ []) (desk (first ∷ openRows 31) ∷ [])
 
-pub full-words : wordsOf 1 1 filling ≡ fullWords
+-- 32 orders leave such a desk
+abbrev pub orders : ℕ → List (List ℕ)
+orders zero = []
+orders (suc n) = orders n ++ (buys 0 (suc n) ∷ [])
+
+pub full-words : wordsOf 1 1 (session 2 ∷ buys 0 32 ∷ orders 31) ≡ state 0 2 (security plain untraded untraded ∷ []) (counting 32 0 0 (opened (bought 32) ∷ openRows 31) ∷ [])
 unfolding wordsOf
 full-words = refl
 
--- the words after a history from the full desk
-abbrev pub full : List (List ℕ) → List ℕ → Answer → Corner
-full before event right = record { words = wordsFrom fullWords before; event = event; right = right }
+-- one customer and two securities, and the other way round
+abbrev pub twoSecurities : List ℕ
+twoSecurities = state 5_000 2 (security plain untraded untraded ∷ security plain untraded untraded ∷ []) (desk [] ∷ [])
 
-abbrev pub refused : ℕ → Answer
-refused n = answer.Refused n
+abbrev pub twoCustomers : List ℕ
+twoCustomers = state 5_000 2 (security plain untraded untraded ∷ []) (desk [] ∷ desk (opened (bought 1) ∷ []) ∷ [])
 
 abbrev pub corners : List Corner
 corners =
-    -- 1: sizes, clock and session; before the bytes are looked at
-    damaged [] 0 0 (session 1) (refused 1)
-    ∷ damaged [] 0 2 (session 1) (refused 1)
-    ∷ damaged [] 1 1_025 (session 1) (refused 1)
-    ∷ damaged [] 2 86_400_000 (session 1) (refused 1)
-    ∷ damaged [] 3 5 [] (refused 1)
-    ∷ damaged [] 3 4 (session 4) answer.Ok
-    -- 2 and 3: an unknown kind before a wrong length, nothing at all is 2
-    ∷ met [] [] (refused 2)
-    ∷ met [] (1 ∷ []) (refused 2)
-    ∷ met [] (2 ∷ 1 ∷ 0 ∷ []) (refused 2)
-    ∷ met [] (0 ∷ []) (refused 3)
-    ∷ met [] (8 ∷ 1 ∷ []) (refused 3)
-    -- 4, and before 5
-    ∷ met [] (order 1 1 0 0 0 0 1 5000 100) (refused 4)
-    ∷ met [] (order 0 1 1 0 0 0 1 5000 100) (refused 4)
-    ∷ met [] (cancel 1 0) (refused 4)
-    ∷ met [] (setup 1 10 0 0 0 0) (refused 4)
-    -- 5, and before 6
-    ∷ met [] (clock 86_400_000) (refused 5)
-    ∷ met [] (session 5) (refused 5)
-    ∷ met [] (setup 0 10 0 0 0 0) (refused 5)
-    ∷ met [] (setup 0 50 2 0 3 0) (refused 5)
-    ∷ met [] (prices 0 2 0 0 0 0) (refused 5)
-    ∷ met [] (setup 0 10 0 0 6560 0) (refused 5)
-    ∷ met [] (prices 0 2 0 0 0 201) (refused 5)
-    ∷ met [] (order 0 0 0 0 0 0 1 5001 100) (refused 5)
-    ∷ met [] (order 0 1 0 0 0 4 1 0 100) (refused 5)
-    ∷ met [] (order 0 1 0 0 0 0 3 5000 100) (refused 5)
-    ∷ met [] (cancel 0 0) (refused 5)
-    ∷ met [] (match 0 0 0) (refused 5)
-    -- 6
-    ∷ met [] (setup 0 100 0 0 6560 0) (refused 6)
-    ∷ met [] (setup 0 100 0 0 0 10_000_001) (refused 6)
-    ∷ met [] (setup 0 100 0 0 6575 10_000_000) answer.Ok
-    ∷ met [] (prices 0 0 0 0 0 201) (refused 6)
-    ∷ met [] (order 0 1 0 0 0 0 1 0 100) (refused 6)
-    ∷ met [] (order 0 1 0 0 0 1 1 5000 100) (refused 6)
+    -- 1: sizes, word count, clock and session; before the bytes are looked at
+    refused (state 0 2 (security plain untraded untraded ∷ []) []) (session 2) 1
+    ∷ refused (state 0 2 [] (desk [] ∷ [])) (session 2) 1
+    ∷ refused (state 0 2 (replicate 1_025 (security plain untraded untraded)) (desk [] ∷ [])) (clock 0) 1
+    ∷ refused (state 0 2 (security plain untraded untraded ∷ []) (replicate 257 (desk []))) (clock 0) 1
+    ∷ refused [] (session 2) 1
+    ∷ refused (take 307 bare) (session 2) 1
+    ∷ refused (bare ++ (0 ∷ [])) (session 2) 1
+    ∷ refused (written bare clockAt (86_400_000 ∷ [])) (session 2) 1
+    ∷ done (written bare clockAt (86_399_999 ∷ [])) (session 2) []
+    ∷ refused (written bare sessionAt (5 ∷ [])) [] 1
+    ∷ done (written bare sessionAt (4 ∷ [])) (session 4) []
+    -- 2 and 3: nothing at all is 2, an unknown kind comes before a wrong length
+    ∷ refused bare [] 2
+    ∷ refused bare (1 ∷ []) 2
+    ∷ refused bare (2 ∷ 1 ∷ 0 ∷ []) 2
+    ∷ refused bare (3 ∷ 0 ∷ 0 ∷ []) 2
+    ∷ refused bare (4 ∷ 0 ∷ 0 ∷ []) 2
+    ∷ refused bare (take 20 (buys 0 1)) 2
+    ∷ refused bare (buys 0 1 ++ (0 ∷ [])) 2
+    ∷ refused bare (6 ∷ []) 2
+    ∷ refused bare (7 ∷ []) 2
+    ∷ refused bare (0 ∷ []) 3
+    ∷ refused bare (8 ∷ 1 ∷ []) 3
+    -- 4: customer or security at least C or S, also by the high byte; and before 5
+    ∷ refused bare (buys 1 1) 4
+    ∷ refused bare (buys 256 1) 4
+    ∷ refused bare (order 0 1 1 main buy limit online 5000 100) 4
+    ∷ refused bare (order 0 1 256 main buy limit online 5000 100) 4
+    ∷ refused held (cancel 1 1) 4
+    ∷ refused held (cancel 256 1) 4
+    ∷ refused held (match 1 1 50) 4
+    ∷ refused bare (setup 1 100 0 0 0 0) 4
+    ∷ refused bare (prices 1 main 0 0 0 0) 4
+    ∷ refused twoSecurities (buys 1 1) 4
+    ∷ refused twoCustomers (order 0 1 1 main buy limit online 5000 100) 4
+    ∷ refused twoCustomers (setup 1 100 0 0 0 0) 4
+    ∷ refused twoSecurities (cancel 1 1) 4
+    ∷ verdict twoSecurities (order 0 1 1 main buy limit online 5000 100) Accept (follows (deskAt 2 0) (rowAt 2 0 0) (entry 1 1 main buy limit online 5000 100) Accept)
+    ∷ verdict twoCustomers (buys 1 2) Accept (follows (deskAt 1 1) (rowAt 1 1 1) (bought 2) Accept)
+    ∷ refused bare (cancel 1 0) 4
+    ∷ refused bare (match 1 0 0) 4
+    ∷ refused bare (setup 1 10 0 0 0 0) 4
+    ∷ refused bare (prices 1 2 0 0 0 0) 4
+    ∷ refused bare (buys 1 0) 4
+    -- 5: each code one beyond its list, a lot beside each of the list; and before 6
+    ∷ refused bare (clock 86_400_000) 5
+    ∷ refused bare (session 5) 5
+    ∷ refused bare (setup 0 0 0 0 0 0) 5
+    ∷ refused bare (setup 0 2 0 0 0 0) 5
+    ∷ refused bare (setup 0 49 0 0 0 0) 5
+    ∷ refused bare (setup 0 51 0 0 0 0) 5
+    ∷ refused bare (setup 0 99 0 0 0 0) 5
+    ∷ refused bare (setup 0 101 0 0 0 0) 5
+    ∷ refused bare (setup 0 50 2 0 0 0) 5
+    ∷ refused bare (setup 0 50 0 2 0 0) 5
+    ∷ refused bare (prices 0 2 0 0 0 0) 5
+    ∷ refused bare (order 0 0 0 main buy limit online 5000 100) 5
+    ∷ refused bare (order 0 1 0 2 buy limit online 5000 100) 5
+    ∷ refused bare (order 0 1 0 main 2 limit online 5000 100) 5
+    ∷ refused bare (order 0 1 0 main buy 4 online 0 100) 5
+    ∷ refused bare (order 0 1 0 main buy limit 3 5000 100) 5
+    ∷ refused bare (cancel 0 0) 5
+    ∷ refused bare (match 0 0 50) 5
+    ∷ refused bare (setup 0 10 0 0 6560 0) 5
+    ∷ refused bare (prices 0 2 0 0 0 201) 5
+    ∷ refused bare (order 0 0 0 main buy limit online 5001 100) 5
+    -- 6: each price off the ladder, and at its end
+    ∷ refused bare (setup 0 100 0 0 6560 0) 6
+    ∷ refused bare (setup 0 100 0 0 10_000_200 0) 6
+    ∷ refused bare (setup 0 100 0 0 0 10_000_001) 6
+    ∷ refused bare (prices 0 main 201 0 0 0) 6
+    ∷ refused bare (prices 0 main 0 201 0 0) 6
+    ∷ refused bare (prices 0 main 0 0 201 0) 6
+    ∷ refused bare (prices 0 foreign 0 0 0 201) 6
+    ∷ refused bare (order 0 1 0 main buy limit online 0 100) 6
+    ∷ refused bare (order 0 1 0 main buy limit online 5001 100) 6
+    ∷ refused bare (order 0 1 0 main buy limit online 10_000_200 100) 6
+    ∷ refused bare (order 0 1 0 main buy ato online 5000 100) 6
+    ∷ refused bare (order 0 1 0 main buy atc online 5000 100) 6
+    ∷ refused bare (order 0 1 0 main buy mp online 5000 100) 6
     -- 7
-    ∷ met (clock 5 ∷ []) (clock 4) (refused 7)
-    ∷ met (clock 5 ∷ []) (clock 5) answer.Ok
-    -- 8: a session event reads all records, also where the session stays; a clock event reads none
-    ∷ damaged opened (securityPlace 0) 10 (session 2) (refused 8)
-    ∷ damaged opened (securityPlace 0) 10 (prices 0 0 0 0 0 0) (refused 8)
-    ∷ damaged opened (securityPlace 0) 10 (buy 1) (refused 8)
-    ∷ damaged opened (securityPlace 0) 10 (cancel 0 1) (refused 10)
-    ∷ damaged opened (securityPlace 0) 10 (clock 1) answer.Ok
-    ∷ damaged held (rowPlace 0) 3 (cancel 0 1) (refused 8)
-    ∷ damaged held (rowPlace 1) 1 (session 2) (refused 8)
-    -- and 4 to 7 before it
-    ∷ damaged opened (securityPlace 0) 10 (setup 1 100 0 0 0 0) (refused 4)
-    ∷ damaged opened (securityPlace 0) 10 (order 0 1 0 0 0 0 1 5001 100) (refused 6)
+    ∷ refused bare (clock 4_999) 7
+    ∷ done bare (clock 5_000) []
     -- 9: for MP too; a cancelled row holds its number for 60,000 ms
-    ∷ met held (buy 1) (refused 9)
-    ∷ met held (typed 1 3) (refused 9)
-    ∷ met (held ++ (cancel 0 1 ∷ clock 60_000 ∷ [])) (buy 1) (refused 9)
-    ∷ met (held ++ (cancel 0 1 ∷ clock 60_001 ∷ [])) (buy 1) (answer.Verdict Accept)
-    -- 10, and before 11
-    ∷ met held (cancel 0 2) (refused 10)
-    ∷ met (held ++ (cancel 0 1 ∷ [])) (cancel 0 1) (refused 10)
-    ∷ met held (match 0 2 0) (refused 10)
+    ∷ refused held (buys 0 1) 9
+    ∷ refused held (order 0 1 0 main buy mp online 0 100) 9
+    ∷ refused (cancelledRow 65_000) (buys 0 1) 9
+    ∷ verdict (cancelledRow 65_001) (buys 0 1) Accept (follows (deskAt 1 0) (rowAt 1 0 0) (bought 1) Accept)
+    -- 10: a cancelled row is not open; and before 11
+    ∷ refused held (cancel 0 2) 10
+    ∷ refused (cancelledRow 5_000) (cancel 0 1) 10
+    ∷ refused (cancelledRow 5_000) (match 0 1 50) 10
+    ∷ refused held (match 0 2 0) 10
+    ∷ refused twoCustomers (cancel 0 1) 10
     -- 11
-    ∷ met held (match 0 1 0) (refused 11)
-    ∷ met held (match 0 1 101) (refused 11)
-    ∷ met held (match 0 1 100) answer.Ok
-    -- 12: after 9, not for MP, nor for an order that is rejected
-    ∷ full [] (buy 1) (refused 9)
-    ∷ full [] (buy 33) (refused 12)
-    ∷ full [] (typed 33 3) (answer.Verdict Accept)
-    ∷ full [] (typed 33 1) (answer.Verdict RejectS)
-    ∷ full [] (order 0 33 0 0 0 0 1 5000 150) (answer.Verdict RejectV)
-    ∷ full (cancel 0 1 ∷ clock 60_000 ∷ []) (buy 33) (refused 12)
-    ∷ full (cancel 0 1 ∷ clock 60_001 ∷ []) (buy 33) (answer.Verdict Accept)
+    ∷ refused held (match 0 1 0) 11
+    ∷ refused held (match 0 1 101) 11
+    ∷ done held (match 0 1 100) ((rowAt 1 0 0, replicate 9 0) ∷ [])
+    -- 12: accept and warn; after 9, not for MP, nor for an order that is rejected; a row cancelled in the minute counts
+    ∷ refused (full 5_000 (opened (bought 32))) (buys 0 1) 9
+    ∷ refused (full 5_000 (opened (bought 32))) (order 0 33 0 main buy limit online 1000 100) 12
+    ∷ refused (full 5_000 (opened (bought 32))) (buys 0 33) 12
+    ∷ verdict (full 5_000 (opened (bought 32))) (order 0 33 0 main buy mp online 0 100) Accept ((deskAt 1 0, 11 ∷ []) ∷ [])
+    ∷ verdict (full 5_000 (opened (bought 32))) (order 0 33 0 main buy ato online 0 100) RejectS ((deskAt 1 0 + 2, 31 ∷ []) ∷ [])
+    ∷ verdict (full 5_000 (opened (bought 32))) (order 0 33 0 main buy limit online 5000 150) RejectV ((deskAt 1 0 + 2, 31 ∷ []) ∷ [])
+    ∷ refused (full 65_000 (cancelled 5_000 (bought 32))) (order 0 33 0 main buy limit online 1000 100) 12
+    ∷ verdict (full 65_001 (cancelled 5_000 (bought 32))) (order 0 33 0 main buy limit online 1000 100) Accept
+    ((deskAt 1 0, 11 ∷ []) ∷ (rowAt 1 0 0, joined (openRows 31 ++ (opened (entry 33 0 main buy limit online 1000 100) ∷ []))) ∷ [])
     ∷ []
 
-abbrev pub answered : Corner → Answer
-answered c = answerOn (c .words) (c .event)
-
-pub all-right : map answered corners ≡ map (λ (c : Corner). c .right) corners
-unfolding answersOf answerOn wordsOf wordsFrom
+pub all-right : map found corners ≡ map right corners
+unfolding resultOn
 all-right = refl
+
+-- 1, "also on making a fresh state": the answer over so many words, for C customers and S securities
+abbrev pub making : ℕ → ℕ → ℕ → Answer
+making words customers securities = answerOf (made (replicate words 7) customers securities)
+
+abbrev pub sizes : List (Answer × Answer)
+sizes =
+    (making 308 1 1, answer.Ok)
+    ∷ (making 307 1 1, answer.Refused 1)
+    ∷ (making 309 1 1, answer.Refused 1)
+    ∷ (making 17 0 1, answer.Refused 1)
+    ∷ (making 295 1 0, answer.Refused 1)
+    ∷ (making 74_513 256 1, answer.Ok)
+    ∷ (making 74_804 257 1, answer.Refused 1)
+    ∷ (making 13_607 1 1_024, answer.Ok)
+    ∷ (making 13_620 1 1_025, answer.Refused 1)
+    ∷ []
+
+pub sizes-right : map (λ (c : Answer × Answer). c .0) sizes ≡ map (λ (c : Answer × Answer). c .1) sizes
+unfolding made
+sizes-right = refl
+
+-- "A fresh state has its C and S, every lot 100 and zeros elsewhere."
+pub fresh-right : made (replicate 625 7) 2 3 ≡ gate.done answer.Ok (2 ∷ 3 ∷ 0 ∷ 0 ∷ (joined (replicate 3 (100 ∷ replicate 12 0)) ++ replicate 582 0))
+unfolding made resultOn
+fresh-right = refl

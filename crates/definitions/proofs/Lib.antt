@@ -1,4 +1,5 @@
--- Demands.antt states the three demands as theorems: read it first. Cases.antt, Listing.antt and Corners.antt run the paper's cases on the definitions.
+-- Demands.antt states the three demands as theorems: read it first. Cases.antt and Listing.antt run the paper's cases on the definitions, and
+-- the files named Corners or Cases after them what stands at each edge.
 
 -- laws of tests, lists and words, which other crates' proofs cite too
 pub mod Tests
@@ -40,4 +41,12 @@ pub mod Bytes
 pub mod Run
 pub mod Cases
 pub mod Listing
+-- each edge: refusals, soundness, the rules, what an event does, bytes, answers
+pub mod Corner
 pub mod Corners
+pub mod SoundCorners
+pub mod MarketCorners
+pub mod RowCorners
+pub mod DoneCorners
+pub mod EventCases
+pub mod AnswerCases

@@ -1,13 +1,15 @@
--- Paper 01, "The day program": its input, event by event, and the answers of its listing, over 8 customers and 16 securities.
+-- Paper 01, "The day program": its input, event by event, the answers of its listing, and the words that it leaves, over 8 customers and 16 securities.
 use mathlib.Core.List.{List, [], _∷_, map}
 use mathlib.Core.Path.{_≡_, refl}
 use Prim.Native.Nat.{ℕ}
+use lib.ListN.{replicate}
 use Rattle.definitions.specs.declared.Answer.{Answer}
 use Rattle.definitions.specs.declared.Answer.the-variants as answer
 use Rattle.definitions.specs.declared.Verdict.the-variants as verdict
 use Rattle.definitions.specs.Answers.{ascii, decimalIn, answerText}
 use Rattle.definitions.proofs.Bytes.{session, prices, order, cancel}
-use Rattle.definitions.proofs.Run.{answersOf}
+use Rattle.definitions.proofs.Run.{answersOf, wordsOf}
+use Rattle.definitions.proofs.Corner.{state, security, plain, traded, untraded, counting, main, buy, limit, online, entry, cancelled}
 
 -- "session 2; security 0 main with last 50.00, bid 49.75, offer 50.25, no projected; customer 0 online, limit 50.00, 100 shares: buy no. 1,
 -- sell no. 2; cancel 1 twice"
@@ -34,6 +36,16 @@ listed =
 pub answers-listed : answersOf 8 16 input ≡ listed
 unfolding answersOf
 answers-listed = refl
+
+-- one accepted, one rejected, and the row cancelled
+abbrev pub left : List ℕ
+left =
+    state 0 2 (security plain (traded 0 5000 4975 5025) untraded ∷ replicate 15 (security plain untraded untraded))
+    (counting 1 0 1 (cancelled 0 (entry 1 0 main buy limit online 5000 100) ∷ []) ∷ replicate 7 (counting 0 0 0 []))
+
+pub words-left : wordsOf 8 16 input ≡ left
+unfolding wordsOf
+words-left = refl
 
 -- the answers of the paper's listing, as its bytes: `ok`, `ok`, `accept`, `reject W`, `ok`, `refused 10`
 abbrev pub words : List (List ℕ)

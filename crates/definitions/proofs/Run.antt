@@ -16,19 +16,15 @@ unfoldable pub answersOf : ℕ → ℕ → List (List ℕ) → List Answer
 unfolding legal bandOfPrice lastBand positionOf lists.any lists.all lists.count lists.keep lists.firstMet lists.allBelow lists.each lists.part lists.put lists.repeat state.headerOf state.securityOf state.securityWords state.rowOf state.rowWords state.rowsOf state.rowsWords state.deskOf state.deskWords state.securityAt state.deskAt state.putSecurity state.putDesk state.stateFits state.freshMarket state.fresh sound.soundSecurity sound.soundRow sound.markedFirst sound.numbersDiffer sound.soundDesk events.lengthOf events.eventOf desks.closeUp desks.edited desks.changed desks.added desks.counted desks.ordered rules.ruleS rules.ruleV rules.ruleQ rules.tradesWithOwn rules.ruleW rules.reenters rules.ruleP rules.warn30 rules.warn10 rules.verdictOf gate.conditions gate.afterSetup gate.afterPrices gate.withoutProjected gate.sessionMarket gate.afterSession gate.perform gate.outcome gate.answersTo
 answersOf customers securities history = gate.answersTo (λ _. true) (state.fresh customers securities) history
 
--- one event handed to the gate over any words
-unfoldable pub answerOn : List ℕ → List ℕ → Answer
+-- the answer and the words that one event leaves, over any words
+unfoldable pub resultOn : List ℕ → List ℕ → Answer × List ℕ
 unfolding answersOf
-answerOn w b = gate.eventAnswer w b
+resultOn w b = gate.resultOf w (gate.outcome w b)
 
--- the words after a history, over any words and from a fresh state
-unfoldable pub wordsFrom : List ℕ → List (List ℕ) → List ℕ
-unfolding answersOf gate.wordsAfter
-wordsFrom w history = gate.wordsAfter w history
-
+-- the words after a history from a fresh state
 unfoldable pub wordsOf : ℕ → ℕ → List (List ℕ) → List ℕ
-unfolding wordsFrom
-wordsOf customers securities history = wordsFrom (state.fresh customers securities) history
+unfolding answersOf gate.wordsAfter
+wordsOf customers securities history = gate.wordsAfter (state.fresh customers securities) history
 
 -- the answer to the last event of a history
 abbrev pub lastOf : List Answer → Answer → Answer
