@@ -3,10 +3,11 @@
 use mathlib.Core.List.{List, [], _∷_, _++_, map}
 use mathlib.Core.Path.{_≡_, refl}
 use Prim.Native.Nat.{ℕ, zero, suc, _+_}
-use lib.ListN.{replicate, take}
+use lib.ListN.{length, replicate, take}
 use Rattle.definitions.specs.declared.Answer.{Answer}
 use Rattle.definitions.specs.declared.Answer.the-variants as answer
 use Rattle.definitions.specs.declared.Verdict.the-variants.{Accept, RejectS, RejectV}
+use Rattle.definitions.specs.Events.{kinds}
 use Rattle.definitions.specs.Gate as gate
 use Rattle.definitions.specs.Gate.{answerOf, made}
 use Rattle.definitions.proofs.Bytes.{clock, session, setup, prices, order, cancel, match}
@@ -80,7 +81,7 @@ corners =
     ∷ refused bare (6 ∷ []) 2
     ∷ refused bare (7 ∷ []) 2
     ∷ refused bare (0 ∷ []) 3
-    ∷ refused bare (8 ∷ 1 ∷ []) 3
+    ∷ refused bare (suc (length kinds) ∷ 1 ∷ []) 3
     -- 4: customer or security at least C or S, also by the high byte; and before 5
     ∷ refused bare (buys 1 1) 4
     ∷ refused bare (buys 256 1) 4
