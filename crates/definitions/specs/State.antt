@@ -6,7 +6,6 @@ use lib.Dec.{leb, eqb}
 use lib.ListN.{length, getD, take, drop, replicate}
 use Rattle.definitions.specs.declared.Header.{Header}
 use Rattle.definitions.specs.declared.Terms.{Terms}
-use Rattle.definitions.specs.declared.PriorPrices.{PriorPrices}
 use Rattle.definitions.specs.declared.Prices.{Prices}
 use Rattle.definitions.specs.declared.Security.{Security}
 use Rattle.definitions.specs.declared.Row.{Row}
@@ -57,9 +56,6 @@ sessionPlace = 3
 abbrev pub termsAt : List ℕ → ℕ → Terms
 termsAt w at = record { lot = getD w at 0; free = getD w (at + 1) 0; «first_day» = getD w (at + 2) 0 }
 
-abbrev pub priorAt : List ℕ → ℕ → PriorPrices
-priorAt w at = record { close = getD w at 0; ipo = getD w (at + 1) 0 }
-
 abbrev pub pricesAt : List ℕ → ℕ → Prices
 pricesAt w at = record { projected = getD w at 0; «last_sale» = getD w (at + 1) 0; bid = getD w (at + 2) 0; offer = getD w (at + 3) 0 }
 
@@ -67,7 +63,7 @@ abbrev pub pricesWords : Prices → List ℕ
 pricesWords p = p .projected ∷ p .«last_sale» ∷ p .bid ∷ p .offer ∷ []
 
 unfoldable pub securityOf : List ℕ → Security
-securityOf w = record { terms = termsAt w 0; prior = priorAt w 3; main = pricesAt w 5; foreign = pricesAt w 9 }
+securityOf w = record { terms = termsAt w 0; prior = record { close = getD w 3 0; ipo = getD w 4 0 }; main = pricesAt w 5; foreign = pricesAt w 9 }
 
 unfoldable pub securityWords : Security → List ℕ
 securityWords s =
