@@ -1,5 +1,6 @@
 -- Paper 01, "Where an event is turned back": the corners of the table, run on the definitions, and one theorem over the whole. What else condition 8 asks of
 -- a record is in SoundCorners.antt.
+use mathlib.Core.Bool.{true, false}
 use mathlib.Core.List.{List, [], _∷_, _++_, map}
 use mathlib.Core.Path.{_≡_, refl}
 use Prim.Native.Nat.{ℕ, zero, suc, _+_}
@@ -7,6 +8,7 @@ use lib.ListN.{length, replicate, take}
 use Rattle.definitions.specs.declared.Answer.{Answer}
 use Rattle.definitions.specs.declared.Answer.the-variants as answer
 use Rattle.definitions.specs.declared.Verdict.the-variants.{Accept, RejectS, RejectV}
+use Rattle.definitions.specs.State.{sizesFit}
 use Rattle.definitions.specs.Events.{kinds}
 use Rattle.definitions.specs.Gate as gate
 use Rattle.definitions.specs.Gate.{answerOf, made}
@@ -61,8 +63,6 @@ corners =
     -- 1: sizes, word count, clock and session; before the bytes are looked at
     refused (state 0 2 (security plain untraded untraded ∷ []) []) (session 2) 1
     ∷ refused (state 0 2 [] (desk [] ∷ [])) (session 2) 1
-    ∷ refused (state 0 2 (replicate 1_025 (security plain untraded untraded)) (desk [] ∷ [])) (clock 0) 1
-    ∷ refused (state 0 2 (security plain untraded untraded ∷ []) (replicate 257 (desk []))) (clock 0) 1
     ∷ refused [] (session 2) 1
     ∷ refused (take 307 bare) (session 2) 1
     ∷ refused (bare ++ (0 ∷ [])) (session 2) 1
@@ -184,15 +184,15 @@ sizes =
     ∷ (making 309 1 1, answer.Refused 1)
     ∷ (making 17 0 1, answer.Refused 1)
     ∷ (making 295 1 0, answer.Refused 1)
-    ∷ (making 74_513 256 1, answer.Ok)
-    ∷ (making 74_804 257 1, answer.Refused 1)
-    ∷ (making 13_607 1 1_024, answer.Ok)
-    ∷ (making 13_620 1 1_025, answer.Refused 1)
     ∷ []
 
 pub sizes-right : map (λ (c : Answer × Answer). c .0) sizes ≡ map (λ (c : Answer × Answer). c .1) sizes
 unfolding made
 sizes-right = refl
+
+-- "C customers (1 to 256) and S securities (1 to 1,024)": the test that a state and the making of one share, at its edges
+pub edges-right : (sizesFit 256 1_024 ≡ true) × (sizesFit 257 1 ≡ false) × (sizesFit 1 1_025 ≡ false) × (sizesFit 0 1 ≡ false) × (sizesFit 1 0 ≡ false)
+edges-right = (refl, refl, refl, refl, refl)
 
 -- "A fresh state has its C and S, every lot 100 and zeros elsewhere."
 pub fresh-right : made (replicate 625 7) 2 3 ≡ gate.done answer.Ok (2 ∷ 3 ∷ 0 ∷ 0 ∷ (joined (replicate 3 (100 ∷ replicate 12 0)) ++ replicate 582 0))
