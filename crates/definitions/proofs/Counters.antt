@@ -1,4 +1,4 @@
--- Counters over histories: after every one, each counter of a customer is the number of that customer's orders that got an answer of its kind.
+-- Counters over histories: after every one, each counter of a customer is the number of the answers of its kind to that customer's events.
 -- Assumes nothing.
 use mathlib.Core.Bool.{Bool, true, false, cond, _&&_, _||_, and-false, false≢true}
 use mathlib.Core.List.{List, [], _∷_}

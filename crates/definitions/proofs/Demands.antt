@@ -152,8 +152,8 @@ module _ (customers securities : ℕ) (fit : sizesFit customers securities ≡ t
       → StandsIn (cancelledAt (headerOf (after history) .clock) r) (deskAt (eventWords (after history) b) k .rows)
   cancel-marks history = minute.cancel-marks (after history) (well-formed history)
 
-  -- "first removes that customer's rows cancelled more than 60,000 ms ago", and nothing else removes a cancelled row: one cancelled at time t stands in its desk,
-  -- unchanged, after any events while the clock is at most t + 60,000
+  -- "first removes that customer's rows cancelled more than 60,000 ms ago": a row cancelled at time t stands in its desk, unchanged, after any events while the
+  -- clock is at most t + 60,000
   pub stays-a-minute : (k : ℕ) → k < customers → (history : List (List ℕ)) (r : Row) → r .mark ≡ cancelledMark
       → StandsIn r (deskAt (after history) k .rows)
       → (later : List (List ℕ)) → headerOf (wordsAfter (after history) later) .clock ≤ r .«cancel_time» + 60_000
