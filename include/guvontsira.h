@@ -266,8 +266,8 @@ enum guvontsira_answer {
        foreign board else the main board's): limits for a free security, session
        open. */
     GUVONTSIRA_WARN_30 = 130,
-    /* At least 3 million baht again at the price of an own order cancelled at
-       most 60,000 ms ago, twice the new volume being at least the cancelled
+    /* At least 3 million baht entered again at the price of an own order cancelled
+       at most 60,000 ms ago, twice the new volume being at least the cancelled
        one: limits, online, session open. */
     GUVONTSIRA_REJECT_P = 216,
     /* Price above 150% or below 50% of the reference, which is the projected
