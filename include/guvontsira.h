@@ -20,8 +20,9 @@
  * little-endian there, as the fields of events are everywhere: words that are
  * kept in a file can be lent again by any program on such a machine.
  *
- * A call takes less than GUVONTSIRA_STACK_BYTES of the caller's stack: 5,980
- * measured, and 8,868 where a lazy dynamic linker looks up memcpy during it.
+ * A call takes less than GUVONTSIRA_STACK_BYTES of the caller's stack: 8,320
+ * measured, for a limit order before the opening, and 8,856 where a lazy dynamic
+ * linker looks up memcpy during it, which is more or less by the processor.
  */
 #ifndef GUVONTSIRA_H
 #define GUVONTSIRA_H
@@ -266,8 +267,8 @@ enum guvontsira_answer {
        foreign board else the main board's): limits for a free security, session
        open. */
     GUVONTSIRA_WARN_30 = 130,
-    /* At least 3 million baht again at the price of an own order cancelled at
-       most 60,000 ms ago, twice the new volume being at least the cancelled
+    /* At least 3 million baht entered again at the price of an own order cancelled
+       at most 60,000 ms ago, twice the new volume being at least the cancelled
        one: limits, online, session open. */
     GUVONTSIRA_REJECT_P = 216,
     /* Price above 150% or below 50% of the reference, which is the projected

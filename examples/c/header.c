@@ -502,23 +502,35 @@ static void texts(void)
 /* The calls that go deepest run on a stack of their own, to see how much they take. */
 static uint8_t stack[4 * GUVONTSIRA_STACK_BYTES];
 static const uint8_t *caller;
+static uint32_t far_answer;
+
+static size_t deep_order(uint8_t *event, uint16_t customer, uint32_t number, uint32_t price)
+{
+    return guvontsira_order_event(event, customer, number, 0, GUVONTSIRA_BOARD_MAIN,
+                                  GUVONTSIRA_SIDE_BUY, GUVONTSIRA_TYPE_LIMIT,
+                                  GUVONTSIRA_CHANNEL_ONLINE, price, 100);
+}
 
 static void deepest(void)
 {
     const uint16_t customer = CUSTOMERS - 1;
-    uint8_t events[4 * GUVONTSIRA_MAX_LENGTH];
-    size_t lengths[4];
-    uint32_t answers[4];
+    uint8_t events[7 * GUVONTSIRA_MAX_LENGTH];
+    size_t lengths[7];
+    uint32_t answers[7];
     size_t end = 0;
     caller = events;
-    end += lengths[0] = guvontsira_session_event(events, GUVONTSIRA_SESSION_OPEN);
-    end += lengths[1] = guvontsira_order_event(events + end, customer, 1, 0, GUVONTSIRA_BOARD_MAIN,
-                                               GUVONTSIRA_SIDE_BUY, GUVONTSIRA_TYPE_LIMIT,
-                                               GUVONTSIRA_CHANNEL_ONLINE, 5000, 100);
-    end += lengths[2] = guvontsira_match_event(events + end, customer, 1, 50);
-    end += lengths[3] = guvontsira_cancel_event(events + end, customer, 1);
+    end += lengths[0] = guvontsira_session_event(events, GUVONTSIRA_SESSION_PRE_OPEN);
+    end += lengths[1] = guvontsira_prices_event(events + end, 0, GUVONTSIRA_BOARD_MAIN, 5000, 0, 0,
+                                                0);
+    /* Warn 10 goes deepest: it has the table of legal prices on the stack. */
+    end += lengths[2] = deep_order(events + end, customer, 1, 4725);
+    end += lengths[3] = guvontsira_session_event(events + end, GUVONTSIRA_SESSION_OPEN);
+    end += lengths[4] = deep_order(events + end, customer, 2, 5000);
+    end += lengths[5] = guvontsira_match_event(events + end, customer, 1, 50);
+    end += lengths[6] = guvontsira_cancel_event(events + end, customer, 1);
     guvontsira_run_list(words, COUNT(words), events, end, lengths, COUNT(lengths), answers,
                         COUNT(answers));
+    far_answer = answers[2];
     guvontsira_price(77);
 }
 
@@ -540,6 +552,7 @@ static void depth(void)
         untouched++;
     }
     MEANS(STACK_BYTES, 1, caller - (stack + untouched) < GUVONTSIRA_STACK_BYTES);
+    same("warn 10 on that stack", 1, GUVONTSIRA_WARN_10, far_answer);
     same("matched and cancelled on that stack", 1, GUVONTSIRA_MARK_CANCELLED,
          words[GUVONTSIRA_ROW_START(SECURITIES, CUSTOMERS - 1, 0) + GUVONTSIRA_ROW_MARK_WORD]);
 }

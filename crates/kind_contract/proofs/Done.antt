@@ -1,6 +1,6 @@
 -- What a kind's function leaves where no condition is met: a security or a desk changed and put back.
 -- Assumes nothing.
-use mathlib.Core.List.{List, []}
+use mathlib.Core.List.{List}
 use mathlib.Core.Path.{_≡_, ap, sym, _∙_}
 use Prim.Native.Nat.{ℕ}
 use Rattle.definitions.specs.declared.Security.{Security}

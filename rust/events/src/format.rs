@@ -70,9 +70,8 @@ fn format_order(order: &Order) -> String {
 }
 
 /// Milliseconds since midnight as `09:55:00.000`. Hours go past 23 where the
-/// gate would turn the time back.
-#[derive(Clone, Copy, Debug)]
-pub struct Time(pub u32);
+/// gate would refuse the time.
+struct Time(u32);
 
 impl fmt::Display for Time {
     fn fmt(&self, f: &mut fmt::Formatter<'_>) -> fmt::Result {

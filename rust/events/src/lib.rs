@@ -46,7 +46,7 @@ pub mod words;
 
 pub use convert::{Broken, Wrong, decode, encode, encode_each, line, lines, split, text};
 pub use expected::{AnyOf, expected};
-pub use format::{Code, Price, Time};
+pub use format::{Code, Price};
 pub use parse::parse;
 pub use second::event::{Event, Order, Prices, Setup};
 pub use values::{number, satang};

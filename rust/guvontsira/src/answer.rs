@@ -32,7 +32,7 @@ pub enum Answer {
     Warn10,
     /// The order must not go out.
     Reject(Rule),
-    /// Turned back with this number; no word of the state changed.
+    /// Refused with this number; no word of the state changed.
     Refused(u8),
 }
 

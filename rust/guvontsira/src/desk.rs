@@ -2,6 +2,7 @@
 
 use crate::codes::{Board, Mark, OrderType, Side};
 use crate::layout::ROW_WORDS;
+use crate::time::Time;
 
 /// A marked row of a desk.
 #[derive(Clone, Copy, Debug, PartialEq, Eq)]
@@ -16,8 +17,8 @@ pub struct Row {
     /// In satang; 0 for ATO and ATC.
     pub price: u32,
     pub volume: u32,
-    /// In milliseconds since midnight; 0 while the row is open.
-    pub cancel_time: u32,
+    /// Midnight while the row is open.
+    pub cancel_time: Time,
 }
 
 /// One customer's counters, and the marked rows in order of acceptance.
@@ -70,7 +71,9 @@ impl Row {
             order_type: OrderType::from_code(order_type).filter(|&code| code != OrderType::Mp)?,
             price,
             volume,
-            cancel_time,
+            cancel_time: Time {
+                milliseconds: cancel_time,
+            },
         })
     }
 }

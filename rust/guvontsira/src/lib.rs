@@ -32,6 +32,7 @@ pub mod library;
 mod release;
 mod security;
 mod state;
+mod time;
 
 pub use answer::{Answer, Refused, Rule};
 pub use codes::{Board, Channel, Mark, OrderType, Session, Side};
@@ -40,6 +41,7 @@ pub use event::Event;
 pub use release::{RELEASE, VERSION};
 pub use security::{Prices, Security};
 pub use state::State;
+pub use time::Time;
 
 /// The ladder position of a price in satang; `None` if it is off the ladder.
 ///

@@ -10,6 +10,7 @@ use crate::layout::{Words, word_count};
 use crate::library;
 use crate::release::check_linked;
 use crate::security::Security;
+use crate::time::Time;
 
 /// The state of one trading day.
 ///
@@ -143,10 +144,10 @@ impl State {
         numbers.into_iter().map(known).collect()
     }
 
-    /// The clock in milliseconds since midnight. `None` if the words are no
-    /// state's.
-    pub fn clock(&self) -> Option<u32> {
-        Words::read(&self.words).map(|words| words.clock)
+    /// The clock. `None` if the words are no state's.
+    pub fn clock(&self) -> Option<Time> {
+        let milliseconds = Words::read(&self.words)?.clock;
+        Some(Time { milliseconds })
     }
 
     /// The session. `None` if the words are no state's.

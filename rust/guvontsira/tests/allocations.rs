@@ -5,7 +5,7 @@ use std::alloc::{GlobalAlloc, Layout, System};
 use std::hint::black_box;
 use std::sync::atomic::{AtomicUsize, Ordering};
 
-use guvontsira::{Answer, Board, Channel, Event, OrderType, Session, Side, State};
+use guvontsira::{Answer, Board, Channel, Event, OrderType, Session, Side, State, Time};
 
 struct Counting;
 
@@ -104,7 +104,7 @@ fn none_for_an_event_that_is_sent() {
         for (event, answer) in day.iter().zip(expected) {
             assert!(state.send(event) == answer);
         }
-        assert!(state.security(0).is_some() && state.clock() == Some(1));
+        assert!(state.security(0).is_some() && state.clock() == Some(Time { milliseconds: 1 }));
     });
     assert_eq!(sent, 0);
     // That the allocator counts.

@@ -2,7 +2,7 @@
 
 use guvontsira::{
     Answer, Board, Channel, Event, Mark, OrderType, Prices, Row, Rule, Security, Session, Side,
-    State, VERSION, library, position, price,
+    State, Time, VERSION, library, position, price,
 };
 
 fn answers(state: &mut State, text: &str) -> Vec<String> {
@@ -85,7 +85,9 @@ cancel 1 no 7
                 order_type: OrderType::Limit,
                 price: 50_00,
                 volume: 200,
-                cancel_time: 32_400_000,
+                cancel_time: Time {
+                    milliseconds: 32_400_000,
+                },
             },
             Row {
                 mark: Mark::Open,
@@ -96,7 +98,7 @@ cancel 1 no 7
                 order_type: OrderType::Atc,
                 price: 0,
                 volume: 200,
-                cancel_time: 0,
+                cancel_time: Time { milliseconds: 0 },
             },
         ]
     );
@@ -120,7 +122,7 @@ const UNKNOWN: Prices = Prices {
 #[test]
 fn a_fresh_market() {
     let state = State::new(2, 3).unwrap();
-    assert_eq!(state.clock(), Some(0));
+    assert_eq!(state.clock(), Some(Time { milliseconds: 0 }));
     assert_eq!(state.session(), Some(Session::Closed));
     for security in 0..3 {
         let fresh = Security {
@@ -152,7 +154,10 @@ prices 2 main projected 50.00 last 49.75 bid 49.50 offer 50.25
 prices 2 foreign projected 40.00 last 39.75 bid 39.50 offer 40.25
 ",
     );
-    assert_eq!(state.clock(), Some(59_400_250));
+    let time = Time {
+        milliseconds: 59_400_250,
+    };
+    assert_eq!(state.clock(), Some(time));
     assert_eq!(state.session(), Some(Session::PreClose));
     let security = state.security(2).unwrap();
     assert_eq!(
@@ -195,7 +200,7 @@ prices 2 foreign projected 40.00 last 39.75 bid 39.50 offer 40.25
         let mut damaged = State::from_words(words);
         assert_eq!(damaged.security(2), None);
         assert_eq!(damaged.security(1), Some(other));
-        assert_eq!(damaged.clock(), Some(59_400_250));
+        assert_eq!(damaged.clock(), Some(time));
         assert_eq!(damaged.handle(&[2, 2]), Answer::Refused(8));
     }
 }

@@ -14,18 +14,27 @@ impl Arguments {
         Arguments(words.collect())
     }
 
-    /// Whether the option stands there; takes it out.
-    pub fn flag(&mut self, option: &str) -> bool {
-        let place = self.0.iter().position(|word| word == option);
+    /// Whether the option stands there, by any of its names; takes it out.
+    pub fn flag(&mut self, names: &[&str]) -> bool {
+        let is_it = |word: &OsString| names.iter().any(|name| word == name);
+        let place = self.0.iter().position(is_it);
         place.map(|place| self.0.remove(place)).is_some()
     }
 
-    /// Takes out the option and the word that follows it.
+    /// Takes out the option and the word that follows it, or that an `=` joins
+    /// to it.
     pub fn value(&mut self, option: &str, wanted: &str) -> Result<Option<String>, Failure> {
-        let Some(place) = self.0.iter().position(|word| word == option) else {
+        let joined = format!("{option}=");
+        let is_it = |word: &OsString| {
+            word == option || word.as_encoded_bytes().starts_with(joined.as_bytes())
+        };
+        let Some(place) = self.0.iter().position(is_it) else {
             return Ok(None);
         };
-        self.0.remove(place);
+        let word = text(self.0.remove(place));
+        if let Some(value) = word.strip_prefix(&joined) {
+            return Ok(Some(value.to_owned()));
+        }
         if place == self.0.len() {
             let reason = format!("the command ends after {option}: expected {wanted}");
             return Err(Failure::Usage(reason));

@@ -61,10 +61,10 @@ const FILE: &str = "a file";
 impl Command {
     pub fn read(words: impl Iterator<Item = OsString>) -> Result<Command, Failure> {
         let mut arguments = Arguments::new(words);
-        if arguments.flag("--help") {
+        if arguments.flag(&["--help", "-h"]) {
             return Ok(Command::Help);
         }
-        if arguments.flag("--version") {
+        if arguments.flag(&["--version", "-V"]) {
             return Ok(Command::Version);
         }
         let commands = AnyOf(&COMMANDS).to_string();
@@ -83,7 +83,7 @@ impl Command {
 fn day(mut arguments: Arguments) -> Result<Command, Failure> {
     let counts = counts(&mut arguments)?;
     let picked = Picked {
-        quiet: arguments.flag("--quiet"),
+        quiet: arguments.flag(&["--quiet"]),
         only: only(&mut arguments)?,
     };
     let [file] = arguments.words([FILE])?;

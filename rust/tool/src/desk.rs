@@ -3,7 +3,7 @@
 use std::io::{self, Write};
 
 use events::words::{BOARDS, SIDES, TYPES};
-use events::{Code, Price, Time};
+use events::{Code, Price};
 use guvontsira::{Desk, Mark, Row};
 
 use crate::table::{self, Column};
@@ -41,7 +41,7 @@ fn cells(row: &Row) -> [String; 8] {
         row.volume.to_string(),
         match row.mark {
             Mark::Open => "open".into(),
-            Mark::Cancelled => format!("cancelled at {}", Time(row.cancel_time)),
+            Mark::Cancelled => format!("cancelled at {}", row.cancel_time),
         },
     ]
 }

@@ -20,8 +20,8 @@ use std::io::{self, BufWriter, IsTerminal, Write};
 use std::path::Path;
 use std::process::ExitCode;
 
+use events::Code;
 use events::words::SESSIONS;
-use events::{Code, Time};
 use guvontsira::State;
 
 use crate::command::{Command, Counts, Run};
@@ -91,7 +91,7 @@ fn after(run: &Run) -> Result<State, Failure> {
 }
 
 fn title(out: &mut impl Write, of: &str, state: &State) -> io::Result<()> {
-    let time = Time(state.clock().expect(WELL_FORMED));
+    let time = state.clock().expect(WELL_FORMED);
     let session = Code(&SESSIONS, state.session().expect(WELL_FORMED).code());
     writeln!(out, "{of} at {time}, session {session}\n")
 }

@@ -28,6 +28,7 @@ fn picked_lines() {
         format!("{reject}\n{summary}")
     );
     assert_eq!(day(&["--only", "warn"], DAY.as_bytes()), summary);
+    assert_eq!(day(&["--only=warn"], DAY.as_bytes()), summary);
     let table = [
         ("ok", "ok\n"),
         ("accept", "accept\n"),
@@ -78,6 +79,8 @@ fn counts() {
     assert_eq!(day(quiet, events.as_bytes()), "refused 4\nrefused 4\n");
     let more = [quiet, &["--customers", "9", "--securities", "17"]].concat();
     assert_eq!(day(&more, events.as_bytes()), "refused 10\nok\n");
+    let joined = [quiet, &["--customers=9", "--securities=17"]].concat();
+    assert_eq!(day(&joined, events.as_bytes()), "refused 10\nok\n");
     let most = [quiet, &["--securities", "1024", "--customers", "256"]].concat();
     assert_eq!(day(&most, events.as_bytes()), "refused 10\nok\n");
 }

@@ -10,7 +10,7 @@ fn usage() {
     let table: &[(&[&str], &str)] = &[
         (&[], &format!("the command ends: {commands}")),
         (&["dya"], &format!("\"dya\": {commands}")),
-        (&["-h"], &format!("\"-h\": {commands}")),
+        (&["-q"], &format!("\"-q\": {commands}")),
         (&["day"], "the command ends: expected a file"),
         (&["day", "--quiet"], "the command ends: expected a file"),
         (
@@ -44,6 +44,18 @@ fn usage() {
         (
             &["day", "day.txt", "--customers", "0"],
             r#""0" after --customers: expected a number, 1 to 256"#,
+        ),
+        (
+            &["day", "day.txt", "--customers="],
+            r#""" after --customers: expected a number, 1 to 256"#,
+        ),
+        (
+            &["day", "day.txt", "--customers=8", "--customers", "9"],
+            r#""--customers": no such option here, or given twice"#,
+        ),
+        (
+            &["day", "day.txt", "--quiet=yes"],
+            r#""--quiet=yes": no such option here, or given twice"#,
         ),
         (
             &["desk", "day.txt", "0", "--customers", "257"],
@@ -112,10 +124,11 @@ fn help_and_version() {
     ] {
         assert!(help.contains(&format!("guvontsira {word}")), "{word}");
     }
-    for arguments in [&["day", "--help"][..], &["--help", "nothing"]] {
+    for arguments in [&["day", "--help"][..], &["--help", "nothing"], &["-h"]] {
         assert_eq!(out(arguments, b""), help);
     }
     assert!(help.lines().all(|line| line.len() <= 82));
     let version = out(&["--version"], b"");
     assert_eq!(version, format!("guvontsira {}\n", guvontsira::RELEASE));
+    assert_eq!(out(&["-V"], b""), version);
 }
