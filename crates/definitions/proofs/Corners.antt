@@ -4,17 +4,16 @@ use mathlib.Core.Bool.{true, false}
 use mathlib.Core.List.{List, [], _∷_, _++_, map}
 use mathlib.Core.Path.{_≡_, refl}
 use Prim.Native.Nat.{ℕ, zero, suc, _+_}
-use lib.ListN.{length, replicate, take}
+use lib.ListN.{replicate, take}
 use Rattle.definitions.specs.declared.Answer.{Answer}
 use Rattle.definitions.specs.declared.Answer.the-variants as answer
-use Rattle.definitions.specs.declared.Verdict.the-variants.{Accept, RejectS, RejectV}
+use Rattle.definitions.specs.declared.Verdict.the-variants.{Accept, RejectS, RejectV, RejectW, RejectP}
 use Rattle.definitions.specs.State.{sizesFit}
-use Rattle.definitions.specs.Events.{kinds}
 use Rattle.definitions.specs.Gate as gate
 use Rattle.definitions.specs.Gate.{answerOf, made}
 use Rattle.definitions.proofs.Bytes.{clock, session, setup, prices, order, cancel, match}
 use Rattle.definitions.proofs.Run.{resultOn, wordsOf}
-use Rattle.definitions.proofs.Corner.{Corner, Entry, found, right, refused, done, verdict, written, joined, state, clockAt, sessionAt, deskAt, rowAt, security, plain, free, traded, untraded, counting, desk, main, foreign, buy, limit, ato, atc, mp, online, entry, bytesOf, opened, cancelled, follows}
+use Rattle.definitions.proofs.Corner.{Corner, Entry, found, right, refused, done, verdict, written, joined, state, clockAt, sessionAt, deskAt, rowAt, security, plain, free, traded, untraded, counting, desk, main, foreign, buy, sell, limit, ato, atc, mp, online, entry, bytesOf, opened, cancelled, follows}
 
 -- limit buys of 100 shares at 50.00 in security 0, online
 abbrev pub bought : ℕ → Entry
@@ -41,6 +40,10 @@ openRows (suc n) = openRows n ++ (opened (bought (suc n)) ∷ [])
 
 abbrev pub full : ℕ → List ℕ → List ℕ
 full now first = state now 2 (security free (traded 0 1000 0 5025) untraded ∷ []) (desk (first ∷ openRows 31) ∷ [])
+
+-- and the other way round: the row is the last
+abbrev pub fullTo : List ℕ → List ℕ
+fullTo last = state 5_000 2 (security free (traded 0 1000 0 5025) untraded ∷ []) (desk (openRows 31 ++ (last ∷ [])) ∷ [])
 
 -- 32 orders leave such a desk
 abbrev pub orders : ℕ → List (List ℕ)
@@ -81,7 +84,7 @@ corners =
     ∷ refused bare (6 ∷ []) 2
     ∷ refused bare (7 ∷ []) 2
     ∷ refused bare (0 ∷ []) 3
-    ∷ refused bare (suc (length kinds) ∷ 1 ∷ []) 3
+    ∷ refused bare (8 ∷ 1 ∷ []) 3
     -- 4: customer or security at least C or S, also by the high byte; and before 5
     ∷ refused bare (buys 1 1) 4
     ∷ refused bare (buys 256 1) 4
@@ -167,6 +170,15 @@ corners =
     ∷ refused (full 65_000 (cancelled 5_000 (bought 32))) (order 0 33 0 main buy limit online 1000 100) 12
     ∷ verdict (full 65_001 (cancelled 5_000 (bought 32))) (order 0 33 0 main buy limit online 1000 100) Accept
     ((deskAt 1 0, 11 ∷ []) ∷ (rowAt 1 0 0, joined (openRows 31 ++ (opened (entry 33 0 main buy limit online 1000 100) ∷ []))) ∷ [])
+    -- 9, 10, 11, W and P look at the last of the 32 rows too
+    ∷ refused (fullTo (opened (bought 32))) (buys 0 32) 9
+    ∷ done (fullTo (opened (bought 32))) (cancel 0 32) ((rowAt 1 0 31, cancelled 5_000 (bought 32)) ∷ [])
+    ∷ done (fullTo (opened (bought 32))) (match 0 32 100) ((rowAt 1 0 31, replicate 9 0) ∷ [])
+    ∷ refused (fullTo (opened (bought 32))) (match 0 32 101) 11
+    ∷ verdict (fullTo (opened (entry 32 0 main sell limit online 5100 100))) (order 0 33 0 main buy limit online 5100 100) RejectW
+    ((deskAt 1 0 + 2, 31 ∷ []) ∷ [])
+    ∷ verdict (fullTo (cancelled 5_000 (entry 32 0 main buy limit online 5000 60_000))) (order 0 33 0 main buy limit online 5000 60_000) RejectP
+    ((deskAt 1 0 + 2, 31 ∷ []) ∷ [])
     ∷ []
 
 pub all-right : map found corners ≡ map right corners

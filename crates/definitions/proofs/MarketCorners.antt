@@ -22,6 +22,9 @@ priced channel price = entry 1 0 main buy limit channel price 100
 abbrev pub foreignAt : ℕ → ℕ → Entry
 foreignAt channel price = entry 1 0 foreign buy limit channel price 100
 
+abbrev pub soldAt : ℕ → Entry
+soldAt price = entry 1 0 main sell limit office price 100
+
 abbrev pub sized : ℕ → ℕ → Entry
 sized price volume = entry 1 0 main buy limit office price volume
 
@@ -95,11 +98,17 @@ corners =
     ∷ meets 2 (security (terms 50 0 0 0 0) untraded untraded) (sized 5000 25) RejectV
     ∷ meets 2 (security (terms 1 0 0 0 0) untraded untraded) (sized 5000 1) Accept
     ∷ meets 2 (security plain quoted untraded) (entry 1 0 main buy mp office 0 50) RejectV
+    ∷ meets 1 bare (entry 1 0 main buy ato office 0 50) RejectV
+    ∷ meets 4 bare (entry 1 0 main buy atc office 0 50) RejectV
     -- "limit value over 500 million baht"
     ∷ meets 2 bare (sized 5000 10_000_000) Accept
     ∷ meets 2 bare (sized 5000 10_000_100) RejectV
     ∷ meets 2 bare (sized 10_000_000 5_000) Accept
     ∷ meets 2 bare (sized 10_000_000 5_100) RejectV
+    ∷ meets 2 bare (entry 1 0 main sell limit office 5000 10_000_000) Accept
+    ∷ meets 2 bare (entry 1 0 main sell limit office 5000 10_000_100) RejectV
+    ∷ meets 2 (security (terms 1 0 0 0 0) untraded untraded) (sized 5000 10_000_000) Accept
+    ∷ meets 2 (security (terms 1 0 0 0 0) untraded untraded) (sized 5000 10_000_001) RejectV
     -- Q: "limits, sessions 1 and 4, free security, every channel: price above 150% or below 50% of the reference"
     ∷ meets 1 (freeAt (projected 1000) untraded) (priced office 1500) Accept
     ∷ meets 1 (freeAt (projected 1000) untraded) (priced office 1510) RejectQ
@@ -107,6 +116,12 @@ corners =
     ∷ meets 1 (freeAt (projected 1000) untraded) (priced dma 1510) RejectQ
     ∷ meets 4 (freeAt (projected 1000) untraded) (priced office 500) Accept
     ∷ meets 4 (freeAt (projected 1000) untraded) (priced office 498) RejectQ
+    ∷ meets 1 (freeAt (projected 1000) untraded) (soldAt 1510) RejectQ
+    ∷ meets 4 (freeAt (projected 1000) untraded) (soldAt 498) RejectQ
+    ∷ meets 1 (freeAt (projected 3) untraded) (priced office 1) RejectQ
+    ∷ meets 1 (freeAt (projected 3) untraded) (priced office 2) Accept
+    ∷ meets 1 (freeAt (projected 3) untraded) (priced office 4) Accept
+    ∷ meets 1 (freeAt (projected 3) untraded) (priced office 5) RejectQ
     ∷ meets 2 (freeAt (projected 1000) untraded) (priced office 1510) Accept
     ∷ meets 1 (security plain (projected 1000) untraded) (priced office 1510) Accept
     ∷ meets 1 (security (terms 100 0 1 0 1000) (projected 1000) untraded) (priced office 1510) Accept
@@ -143,6 +158,11 @@ corners =
     ∷ meets 2 (freeAt (last 1000) untraded) (priced online 700) Accept
     ∷ meets 2 (freeAt (last 1000) untraded) (priced online 695) Warn30
     ∷ meets 2 (freeAt (last 1000) untraded) (priced dma 1310) Warn30
+    ∷ meets 2 (freeAt (last 1000) untraded) (soldAt 1310) Warn30
+    ∷ meets 2 (freeAt (last 1000) untraded) (soldAt 695) Warn30
+    ∷ meets 2 (freeAt (last 3) untraded) (priced office 2) Warn30
+    ∷ meets 2 (freeAt (last 3) untraded) (priced office 3) Accept
+    ∷ meets 2 (freeAt (last 3) untraded) (priced office 4) Warn30
     ∷ meets 1 (freeAt (last 1000) untraded) (priced office 1310) Accept
     ∷ meets 4 (freeAt (last 1000) untraded) (priced office 695) Accept
     ∷ meets 2 (security plain (last 1000) untraded) (priced office 1310) Accept

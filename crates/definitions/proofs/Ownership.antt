@@ -25,8 +25,9 @@ abbrev pub customerIn : List ℕ → ℕ
 customerIn b = two b 1
 
 pub record Belongs (customers : ℕ) (b : List ℕ) : Type 0 where
-  pub to-market : (ownerOf customers b ≡ market) ↔ (Read b × (kindOf b ≤ 4))
-  pub to-customer : (k : ℕ) → (ownerOf customers b ≡ customer k) ↔ (Read b × (5 ≤ kindOf b) × (customerIn b ≡ k) × (k < customers))
+  pub to-market : (ownerOf customers b ≡ market) ↔ (Read b × (1 ≤ kindOf b) × (kindOf b ≤ 4))
+  pub to-customer : (k : ℕ)
+      → (ownerOf customers b ≡ customer k) ↔ (Read b × (5 ≤ kindOf b) × (kindOf b ≤ 7) × (customerIn b ≡ k) × (k < customers))
   pub to-nobody : (ownerOf customers b ≡ nobody) ↔ ((Read b → ⊥) ⊎ ((5 ≤ kindOf b) × (customers ≤ customerIn b)))
 
 -- a kind that is read is one of the table
@@ -42,6 +43,19 @@ read-known b read unknown = go (eqb (length b) 0) (rw (eq-eqb (lengthOf (kindOf 
 pub past-kinds : (k : ℕ) → length kinds < k → lengthOf k ≡ 0
 unfolding lengthOf
 past-kinds k more = rw (ne-eqb k 0 (λ e. omega arith)) (ap (λ (x : ℕ × (List ℕ → Event)). x .0) (List·getD-eq-default kinds (0, matchOf) {n = k - 1} (omega arith)))
+
+-- a kind of the table is 1 to 7, and so is the kind of an event that is read
+known-kind : (n : ℕ) → (lengthOf n ≡ 0 → ⊥) → (1 ≤ n) × (n ≤ 7)
+unfolding lengthOf
+known-kind zero known = absurd (known refl)
+known-kind (suc n) known = (omega arith, go (ltb 7 (suc n)) refl)
+  where
+    go : (t : Bool) → ltb 7 (suc n) ≡ t → suc n ≤ 7
+    go true past = absurd (known (past-kinds (suc n) (ltb-true 7 (suc n) past)))
+    go false within = ltb-false 7 (suc n) within
+
+read-kind : (b : List ℕ) → Read b → (1 ≤ kindOf b) × (kindOf b ≤ 7)
+read-kind b read = known-kind (kindOf b) (read-known b read)
 
 -- the owner by kind, and for kinds 5 to 7 by the customer that is named
 abbrev byKind : ℕ → ℕ → ℕ → Owner
@@ -91,11 +105,11 @@ module _ (customers : ℕ) (b : List ℕ) where
           let not-read : Read b → ⊥ = eqb-false (firstMet (bytesConditions b)) 0 e in
           subst (Owns customers b) (sym (owner-unread not-read)) (unread not-read)
 
-  market-from : Owns customers b market → Read b × (kindOf b ≤ 4)
-  market-from (market-kind read early) = (read, early)
+  market-from : Owns customers b market → Read b × (1 ≤ kindOf b) × (kindOf b ≤ 4)
+  market-from (market-kind read early) = (read, read-kind b read .0, early)
 
-  customer-from : (k : ℕ) → Owns customers b (customer k) → Read b × (5 ≤ kindOf b) × (customerIn b ≡ k) × (k < customers)
-  customer-from k (own-kind j own read late inside) = (read, late, own, inside)
+  customer-from : (k : ℕ) → Owns customers b (customer k) → Read b × (5 ≤ kindOf b) × (kindOf b ≤ 7) × (customerIn b ≡ k) × (k < customers)
+  customer-from k (own-kind j own read late inside) = (read, late, read-kind b read .1, own, inside)
 
   nobody-from : Owns customers b nobody → (Read b → ⊥) ⊎ ((5 ≤ kindOf b) × (customers ≤ customerIn b))
   nobody-from (beyond-last late outside) = inr (late, outside)
@@ -114,11 +128,11 @@ module _ (customers : ℕ) (b : List ℕ) where
   pub belongs : Belongs customers b
   belongs =
       record {
-        to-market = (λ e. market-from (subst (Owns customers b) e owns), λ h. owner-read (h .0) ∙ rw (lt-ltb (kindOf b) 5 (omega (arith, h .1))));
+        to-market = (λ e. market-from (subst (Owns customers b) e owns), λ h. owner-read (h .0) ∙ rw (lt-ltb (kindOf b) 5 (omega (arith, h .2))));
         to-customer =
             λ k. (
               λ e. customer-from k (subst (Owns customers b) e owns),
-              λ h. owner-late (h .0) (h .1) ∙ rw (h .2, lt-ltb k customers (h .3)),
+              λ h. owner-late (h .0) (h .1) ∙ rw (h .3, lt-ltb k customers (h .4)),
             );
         to-nobody = (λ e. nobody-from (subst (Owns customers b) e owns), ⊎-elim owner-unread (λ h. owner-beyond (h .0) (h .1)));
       }

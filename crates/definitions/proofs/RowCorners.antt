@@ -6,7 +6,7 @@ use Prim.Native.Nat.{ℕ}
 use Rattle.definitions.specs.declared.Verdict.{Verdict}
 use Rattle.definitions.specs.declared.Verdict.the-variants.{RejectV, RejectQ, RejectW, RejectP, Accept}
 use Rattle.definitions.proofs.Run.{resultOn}
-use Rattle.definitions.proofs.Corner.{Corner, Entry, found, right, judged, security, traded, plain, free, untraded, main, foreign, buy, sell, limit, ato, atc, mp, office, online, dma, entry, opened, cancelled}
+use Rattle.definitions.proofs.Corner.{Corner, Entry, found, right, judged, security, terms, traded, plain, free, untraded, main, foreign, buy, sell, limit, ato, atc, mp, office, online, dma, entry, opened, cancelled}
 
 -- two securities, of which the first has some prices on the main board; the clock is at 100,000
 abbrev pub meets : ℕ → List ℕ → List (List ℕ) → Entry → Verdict → Corner
@@ -51,6 +51,11 @@ sized number volume = entry number 0 main buy limit online 5000 volume
 abbrev pub gone : ℕ → List (List ℕ)
 gone volume = cancelled 40_000 (sized 1 volume) ∷ []
 
+-- and by one share: lot 1, and a cancelled buy at 0.15, of which 20,000,000 shares are worth 3 million baht
+abbrev pub meetsShare : Entry → Verdict → Corner
+meetsShare e v =
+    judged 100_000 2 (security (terms 1 0 0 0 0) untraded untraded ∷ []) (cancelled 40_000 (entry 1 0 main buy limit online 15 20_000_000) ∷ []) e v
+
 abbrev pub corners : List Corner
 corners =
     -- W: "Limit buy at or above an own limit sell"
@@ -63,6 +68,8 @@ corners =
     ∷ meets 2 untraded (ownBuy 5000) (sells 5025) Accept
     ∷ meets 2 untraded (ownBuy 5000) (sells 5000) RejectW
     ∷ meets 2 untraded (ownBuy 5000) (sells 4975) RejectW
+    ∷ meets 1 untraded (ownBuy 5000) (sells 5000) RejectW
+    ∷ meets 4 untraded (ownBuy 5000) (sells 5000) RejectW
     -- "online only"
     ∷ meets 2 untraded (ownSell 5000) (entry 2 0 main buy limit office 5000 100) Accept
     ∷ meets 2 untraded (ownSell 5000) (entry 2 0 main buy limit dma 5000 100) Accept
@@ -85,6 +92,8 @@ corners =
     ∷ meets 4 untraded (own (typed 1 buy ato)) (typed 2 sell atc) RejectW
     ∷ meets 1 untraded (own (typed 1 buy ato)) (typed 2 buy ato) Accept
     ∷ meets 4 untraded (own (typed 1 sell atc)) (typed 2 sell atc) Accept
+    ∷ meets 1 untraded (own (entry 1 0 foreign sell ato online 0 100)) (entry 2 0 foreign buy ato online 0 100) RejectW
+    ∷ meets 4 untraded (own (entry 1 0 foreign buy atc online 0 100)) (entry 2 0 foreign sell atc online 0 100) RejectW
     -- "With a projected price, in sessions 1 and 4: limit buy at or above it against an own ATO or ATC sell"
     ∷ meets 1 projected (own (typed 1 sell ato)) (buys 4975) Accept
     ∷ meets 1 projected (own (typed 1 sell ato)) (buys 5000) RejectW
@@ -148,6 +157,10 @@ corners =
     (entry 2 0 foreign buy mp online 0 100) RejectW
     ∷ judged 100_000 2 (security plain quoted (traded 0 0 5000 5050) ∷ []) (own (entry 1 0 foreign sell limit online 5025 100))
     (entry 2 0 foreign buy mp online 0 100) Accept
+    ∷ judged 100_000 2 (security plain quoted (traded 0 0 5000 5050) ∷ []) (own (entry 1 0 foreign buy limit online 5000 100))
+    (entry 2 0 foreign sell mp online 0 100) RejectW
+    ∷ judged 100_000 2 (security plain quoted (traded 0 0 5000 5050) ∷ []) (own (entry 1 0 foreign buy limit online 4975 100))
+    (entry 2 0 foreign sell mp online 0 100) Accept
     -- and against no other type
     ∷ meets 2 (traded 5000 0 4975 5025) (own (typed 1 sell ato)) (typed 2 buy mp) Accept
     ∷ meets 2 (traded 5000 0 4975 5025) (own (typed 1 sell atc)) (typed 2 buy mp) Accept
@@ -156,6 +169,8 @@ corners =
     -- P: "value at least 3 million baht": 60,000 shares at 50.00
     ∷ meets 2 untraded (gone 100_000) (sized 2 60_000) RejectP
     ∷ meets 2 untraded (gone 100_000) (sized 2 59_900) Accept
+    ∷ meetsShare (entry 2 0 main buy limit online 15 20_000_000) RejectP
+    ∷ meetsShare (entry 2 0 main buy limit online 15 19_999_999) Accept
     -- "twice the new volume being at least the cancelled volume"
     ∷ meets 2 untraded (gone 200_000) (sized 2 100_000) RejectP
     ∷ meets 2 untraded (gone 200_100) (sized 2 100_000) Accept

@@ -1,9 +1,9 @@
 -- A sound desk stays sound: as the clock goes on, and after a session change, a cancel, a match report and an order.
 -- Assumes nothing.
-use mathlib.Core.Bool.{Bool, true, false, cond, _&&_, _||_, not, true≢false}
+use mathlib.Core.Bool.{Bool, true, false, cond, _||_, not, true≢false}
 use mathlib.Core.List.{List, [], _∷_, _++_, map}
 use mathlib.Core.Path.{_≡_, refl, ap, sym, subst, _∙_}
-use Prim.Native.Nat.{ℕ, zero, suc, _-_, _%_, _≤_, _<_}
+use Prim.Native.Nat.{ℕ, zero, suc, _-_, _≤_, _<_}
 use native.Mathlib.Omega.{arith}
 use lib.Dec.{leb, ltb, eqb}
 use lib.ListN.{length, replicate, length-set, length-map}
@@ -16,11 +16,11 @@ use Rattle.definitions.specs.declared.Desk.{Desk}
 use Rattle.definitions.specs.declared.Order.{Order}
 use Rattle.definitions.specs.declared.Verdict.{Verdict}
 use Rattle.definitions.specs.declared.Verdict.the-variants as verdict
-use Rattle.definitions.specs.Codes.{foreignBoard, sell, atc, mp, dma, isLimit, deskRows, maxVolume}
+use Rattle.definitions.specs.Codes.{foreignBoard, sell, atc, mp, dma, deskRows, maxVolume}
 use Rattle.definitions.specs.Lists.{any, all, count, keep}
 use Rattle.definitions.specs.Sound.{marked, numbered, pricedAs, soundRow, markedFirst, numbersDiffer, soundDesk}
 use Rattle.definitions.specs.Desks.{freeRow, freshDesk, openOrInMinute, closeUp, edited, expiredRow, changed, rowOfOrder, addedLast, added, counterOf, countedAs, isRejected, counted, takesRow, ordered}
-use Rattle.definitions.specs.Rules.{View, valueOf, ruleS, ruleV, verdictOf}
+use Rattle.definitions.specs.Rules.{View, ruleS, ruleV, verdictOf}
 use Rattle.definitions.specs.Refusals.{badCode, holdsNumber, numberTaken, deskFull}
 use Rattle.definitions.proofs.Tests.{and-parts, and-whole, and-second, or-parts, joined-parts, joined-whole}
 use Rattle.definitions.proofs.Rows.{KeepsNumbers, all-append, all-replicate, all-kept, all-keep, all-weaken, all-map, any-keep, any-map-same, count-map-same, count-le, length-edited, first-closed, differ-closed, differ-keep, differ-map, differ-last, added-closed}
@@ -156,12 +156,9 @@ order-fits securities m o n c p v =
     let c₂ = or-parts (board || side || type) channel (c₃ .0) in
     let c₁ = or-parts (board || side) type (c₂ .0) in
     let c₀ = or-parts board side (c₁ .0) in
-    let empty = eqb (o .volume) 0 in
-    let many = ltb maxVolume (o .volume) in
-    let broken = not (eqb (o .volume % m .security .terms .lot) 0) in
-    let v₂ = or-parts (empty || many || broken) (isLimit (o .«order_type») && ltb 50_000_000_000 (valueOf o)) v in
-    let v₁ = or-parts (empty || many) broken (v₂ .0) in
-    let v₀ = or-parts empty many (v₁ .0) in
+    let v₂ = or-parts _ _ v in
+    let v₁ = or-parts _ _ (v₂ .0) in
+    let v₀ = or-parts _ _ (v₁ .0) in
     record {
       number = c₃ .1;
       security = n;
