@@ -147,6 +147,7 @@ corners =
     ∷ done bare (clock 5_000) []
     -- 9: for MP too; a cancelled row holds its number for 60,000 ms
     ∷ refused held (buys 0 1) 9
+    ∷ refused (state 5_000 2 (security plain untraded untraded ∷ security plain untraded untraded ∷ []) (desk (opened (bought 1) ∷ []) ∷ [])) (order 0 1 1 main buy limit online 5000 100) 9
     ∷ refused held (order 0 1 0 main buy mp online 0 100) 9
     ∷ refused (cancelledRow 65_000) (buys 0 1) 9
     ∷ verdict (cancelledRow 65_001) (buys 0 1) Accept (follows (deskAt 1 0) (rowAt 1 0 0) (bought 1) Accept)
@@ -164,6 +165,7 @@ corners =
     ∷ refused (full 5_000 (opened (bought 32))) (buys 0 1) 9
     ∷ refused (full 5_000 (opened (bought 32))) (order 0 33 0 main buy limit online 1000 100) 12
     ∷ refused (full 5_000 (opened (bought 32))) (buys 0 33) 12
+    ∷ refused (written (full 5_000 (opened (bought 32))) sessionAt (1 ∷ [])) (order 0 33 0 main buy ato online 0 100) 12
     ∷ verdict (full 5_000 (opened (bought 32))) (order 0 33 0 main buy mp online 0 100) Accept ((deskAt 1 0, 11 ∷ []) ∷ [])
     ∷ verdict (full 5_000 (opened (bought 32))) (order 0 33 0 main buy ato online 0 100) RejectS ((deskAt 1 0 + 2, 31 ∷ []) ∷ [])
     ∷ verdict (full 5_000 (opened (bought 32))) (order 0 33 0 main buy limit online 5000 150) RejectV ((deskAt 1 0 + 2, 31 ∷ []) ∷ [])

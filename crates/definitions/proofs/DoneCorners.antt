@@ -6,6 +6,7 @@ use Prim.Native.Nat.{ℕ, _+_}
 use lib.ListN.{drop, replicate}
 use Rattle.definitions.specs.declared.Verdict.the-variants.{RejectV, RejectW, Warn30, Accept}
 use Rattle.definitions.proofs.Bytes.{clock, session, setup, prices, cancel, match}
+use Rattle.definitions.specs.Lone.{marketWords, customerWords}
 use Rattle.definitions.proofs.Run.{resultOn}
 use Rattle.definitions.proofs.Corner.{Corner, Changes, Entry, found, right, done, verdict, joined, state, clockAt, sessionAt, securityAt, deskAt, rowAt, security, terms, traded, counting, desk, main, foreign, buy, sell, limit, ato, atc, mp, online, entry, bytesOf, opened, cancelled}
 
@@ -120,6 +121,7 @@ corners =
     ((deskAt 3 0 + 1, 21 ∷ []) ∷ rows 0 (withOrder (entry 9 0 main buy limit online 1000 100)) ∷ [])
     ∷ verdict (words 2) (bytesOf 0 (entry 5 0 main buy limit online 4900 100)) Accept
     ((deskAt 3 0, 11 ∷ []) ∷ rows 0 (withOrder (entry 5 0 main buy limit online 4900 100)) ∷ [])
+    ∷ verdict (words 1) (bytesOf 0 (entry 9 0 main buy ato online 0 100)) Accept ((deskAt 3 0, 11 ∷ []) ∷ rows 0 (withOrder (entry 9 0 main buy ato online 0 100)) ∷ [])
     ∷ verdict (words 2) (bytesOf 1 ordered) Accept ((deskAt 3 1, 11 ∷ []) ∷ (rowAt 3 1 2, opened ordered) ∷ [])
     -- MP, and a rejected order, leave the rows
     ∷ verdict (words 2) (bytesOf 0 (entry 9 0 main buy mp online 0 100)) Accept ((deskAt 3 0, 11 ∷ []) ∷ [])
@@ -152,3 +154,12 @@ corners =
 pub all-right : map found corners ≡ map right corners
 unfolding resultOn
 all-right = refl
+
+-- "Compared are .. the market's words and every word of k's desk."
+pub market-right : marketWords (words 2) ≡ 2 ∷ 3 ∷ 100_000 ∷ 2 ∷ joined (first ∷ second ∷ third ∷ [])
+unfolding resultOn marketWords
+market-right = refl
+
+pub desk-right : customerWords (words 2) 1 ≡ desk few
+unfolding resultOn customerWords
+desk-right = refl

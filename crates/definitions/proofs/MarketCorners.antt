@@ -91,6 +91,10 @@ corners =
     ∷ meets 1 bare (entry 1 0 main buy ato office 0 0) RejectV
     ∷ meets 1 bare (entry 1 0 main buy ato office 0 20_000_000) Accept
     ∷ meets 1 bare (entry 1 0 main buy ato office 0 20_000_100) RejectV
+    ∷ meets 2 (security plain quoted untraded) (entry 1 0 main buy mp office 0 0) RejectV
+    ∷ meets 2 (security plain quoted untraded) (entry 1 0 main buy mp office 0 20_000_100) RejectV
+    ∷ meets 1 bare (entry 1 0 main buy ato office 0 50) RejectV
+    ∷ meets 4 bare (entry 1 0 main buy atc office 0 50) RejectV
     -- "or no multiple of the lot"
     ∷ meets 2 bare (sized 5000 50) RejectV
     ∷ meets 2 bare (sized 5000 101) RejectV
@@ -98,11 +102,10 @@ corners =
     ∷ meets 2 (security (terms 50 0 0 0 0) untraded untraded) (sized 5000 25) RejectV
     ∷ meets 2 (security (terms 1 0 0 0 0) untraded untraded) (sized 5000 1) Accept
     ∷ meets 2 (security plain quoted untraded) (entry 1 0 main buy mp office 0 50) RejectV
-    ∷ meets 1 bare (entry 1 0 main buy ato office 0 50) RejectV
-    ∷ meets 4 bare (entry 1 0 main buy atc office 0 50) RejectV
     -- "limit value over 500 million baht"
     ∷ meets 2 bare (sized 5000 10_000_000) Accept
     ∷ meets 2 bare (sized 5000 10_000_100) RejectV
+    ∷ meets 2 (security (terms 1 0 0 0 0) untraded untraded) (sized 3850 12_987_013) RejectV
     ∷ meets 2 bare (sized 10_000_000 5_000) Accept
     ∷ meets 2 bare (sized 10_000_000 5_100) RejectV
     ∷ meets 2 bare (entry 1 0 main sell limit office 5000 10_000_000) Accept
@@ -122,6 +125,9 @@ corners =
     ∷ meets 1 (freeAt (projected 3) untraded) (priced office 2) Accept
     ∷ meets 1 (freeAt (projected 3) untraded) (priced office 4) Accept
     ∷ meets 1 (freeAt (projected 3) untraded) (priced office 5) RejectQ
+    ∷ meets 4 (freeAt (projected 199) untraded) (priced office 99) RejectQ
+    ∷ meets 4 (freeAt (projected 199) untraded) (priced office 100) Accept
+    ∷ meets 1 (freeAt (projected 1) untraded) (priced office 2) RejectQ
     ∷ meets 2 (freeAt (projected 1000) untraded) (priced office 1510) Accept
     ∷ meets 1 (security plain (projected 1000) untraded) (priced office 1510) Accept
     ∷ meets 1 (security (terms 100 0 1 0 1000) (projected 1000) untraded) (priced office 1510) Accept
@@ -157,6 +163,8 @@ corners =
     ∷ meets 2 (freeAt (last 1000) untraded) (priced office 1310) Warn30
     ∷ meets 2 (freeAt (last 1000) untraded) (priced online 700) Accept
     ∷ meets 2 (freeAt (last 1000) untraded) (priced online 695) Warn30
+    ∷ meets 2 (freeAt (last 199) untraded) (priced office 139) Warn30
+    ∷ meets 2 (freeAt (last 199) untraded) (priced office 140) Accept
     ∷ meets 2 (freeAt (last 1000) untraded) (priced dma 1310) Warn30
     ∷ meets 2 (freeAt (last 1000) untraded) (soldAt 1310) Warn30
     ∷ meets 2 (freeAt (last 1000) untraded) (soldAt 695) Warn30

@@ -90,6 +90,8 @@ corners =
     ∷ meets 4 untraded (own (typed 1 sell atc)) (typed 2 buy atc) RejectW
     ∷ meets 4 untraded (own (typed 1 buy atc)) (typed 2 sell atc) RejectW
     ∷ meets 4 untraded (own (typed 1 buy ato)) (typed 2 sell atc) RejectW
+    ∷ meets 1 projected (own (typed 1 sell ato)) (typed 2 buy ato) RejectW
+    ∷ meets 4 projected (own (typed 1 buy atc)) (typed 2 sell atc) RejectW
     ∷ meets 1 untraded (own (typed 1 buy ato)) (typed 2 buy ato) Accept
     ∷ meets 4 untraded (own (typed 1 sell atc)) (typed 2 sell atc) Accept
     ∷ meets 1 untraded (own (entry 1 0 foreign sell ato online 0 100)) (entry 2 0 foreign buy ato online 0 100) RejectW
@@ -101,6 +103,10 @@ corners =
     ∷ meets 4 projected (own (typed 1 sell atc)) (buys 4975) Accept
     ∷ meets 4 projected (own (typed 1 sell atc)) (buys 5000) RejectW
     ∷ meets 4 projected (own (typed 1 sell atc)) (buys 5025) RejectW
+    ∷ meets 1 projected (own (typed 1 sell atc)) (buys 5000) RejectW
+    ∷ meets 4 projected (own (typed 1 sell ato)) (buys 5000) RejectW
+    ∷ meets 1 projected (own (typed 1 buy atc)) (sells 5000) RejectW
+    ∷ meets 4 projected (own (typed 1 buy ato)) (sells 5000) RejectW
     ∷ meets 1 untraded (own (typed 1 sell ato)) (buys 5000) Accept
     ∷ meets 4 untraded (own (typed 1 sell atc)) (buys 5000) Accept
     ∷ meets 2 projected (own (typed 1 sell ato)) (buys 5000) Accept
@@ -174,6 +180,7 @@ corners =
     -- "twice the new volume being at least the cancelled volume"
     ∷ meets 2 untraded (gone 200_000) (sized 2 100_000) RejectP
     ∷ meets 2 untraded (gone 200_100) (sized 2 100_000) Accept
+    ∷ meets 2 untraded (gone 120_001) (sized 2 60_000) Accept
     ∷ meets 2 untraded (gone 100) (sized 2 100_000) RejectP
     -- "limits, online, session 2"
     ∷ meets 2 untraded (gone 100_000) (entry 2 0 main buy limit office 5000 60_000) Accept
@@ -190,6 +197,8 @@ corners =
     ∷ meets 2 untraded (gone 100_000) (entry 2 0 main sell limit online 5000 60_000) Accept
     ∷ meets 2 untraded (gone 100_000) (entry 2 0 main buy limit online 5025 60_000) Accept
     ∷ meets 2 untraded (gone 100_000) (entry 2 0 main buy limit online 4975 61_000) Accept
+    ∷ meets 2 untraded (cancelled 40_000 (entry 1 0 main sell limit online 5000 100_000) ∷ []) (entry 2 0 main sell limit online 4975 61_000) Accept
+    ∷ meets 2 untraded (cancelled 40_000 (entry 1 0 main sell limit online 5000 100_000) ∷ []) (entry 2 0 main sell limit online 5025 60_000) Accept
     ∷ meets 2 untraded (cancelled 40_000 (entry 1 1 main sell limit office 5000 100_000) ∷ [])
     (entry 2 1 main sell limit online 5000 60_000) RejectP
     ∷ meets 2 untraded (cancelled 40_000 (entry 1 1 foreign buy limit office 5000 100_000) ∷ [])

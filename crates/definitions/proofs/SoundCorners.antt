@@ -117,6 +117,7 @@ records =
     -- "marked rows stand first and free rows are all zero"
     ∷ soundRows (replicate 32 (replicate 9 0))
     ∷ badRows (replicate 9 0 ∷ opened (bought 1) ∷ [])
+    ∷ badRows (replicate 9 0 ∷ cancelled 0 (bought 1) ∷ [])
     ∷ badRows (opened (bought 1) ∷ replicate 9 0 ∷ replicate 9 0 ∷ opened (bought 2) ∷ [])
     ∷ badRows (row 0 1 0 0 0 0 0 0 0 ∷ [])
     ∷ badRows (row 0 0 1 0 0 0 0 0 0 ∷ [])
@@ -164,6 +165,13 @@ records =
     ∷ soundRows (row 1 1 0 main buy limit 1 1 0 ∷ row 1 2 0 main buy limit 1 20_000_000 0 ∷ [])
     ∷ badRows (row 1 1 0 main buy limit 1 0 0 ∷ [])
     ∷ badRows (row 1 1 0 main buy limit 1 20_000_001 0 ∷ [])
+    ∷ badRows (row 2 1 0 main buy limit 1 0 0 ∷ [])
+    ∷ badRows (row 2 1 0 main buy limit 1 20_000_001 0 ∷ [])
+    ∷ badRows (row 2 1 1 main buy limit 1 100 0 ∷ [])
+    ∷ badRows (row 2 0 0 main buy limit 1 100 0 ∷ [])
+    ∷ badRows (row 2 1 0 2 buy limit 1 100 0 ∷ [])
+    ∷ badRows (row 2 1 0 main 2 limit 1 100 0 ∷ [])
+    ∷ badRows (row 2 1 0 main buy limit 201 100 0 ∷ [])
     ∷ []
 
 pub records-right : map found records ≡ map right records
