@@ -113,6 +113,7 @@ corners =
     ∷ done (words 2) (setup 1 100 0 1 10_000_000 0) ((securityAt 1, terms 100 0 1 10_000_000 0) ∷ [])
     ∷ done (words 2) (prices 0 main 10_000_000 9_999_800 9_999_600 9_999_400)
     ((securityAt 0 + 5, traded 10_000_000 9_999_800 9_999_600 9_999_400) ∷ [])
+    ∷ done (words 2) (prices 0 foreign 5 6 7 8) ((securityAt 0 + 9, traded 5 6 7 8) ∷ [])
     ∷ done (words 2) (prices 1 foreign 1 2 3 4) ((securityAt 1 + 9, traded 1 2 3 4) ∷ [])
     ∷ done (words 2) (prices 2 main 0 0 0 0) ((securityAt 2 + 5, traded 0 0 0 0) ∷ [])
     -- "An accepted or warned order (not MP) first removes that customer's rows cancelled more than 60,000 ms ago, then is added last."
@@ -137,6 +138,7 @@ corners =
     -- "A match lowers the volume; at 0 the row is removed."
     ∷ done (words 2) (match 0 6 199) ((rowAt 3 0 5, opened (entry 6 1 main sell limit online 8100 1)) ∷ [])
     ∷ done (words 2) (match 0 1 1) ((rowAt 3 0 0, opened (entry 1 1 foreign buy limit online 4900 99)) ∷ [])
+    ∷ done (words 2) (match 0 4 1) ((rowAt 3 0 3, opened (entry 4 0 foreign buy atc online 0 399)) ∷ [])
     ∷ done (words 2) (match 0 2 1) ((rowAt 3 0 1, opened (entry 2 1 main sell ato online 0 299)) ∷ [])
     ∷ done (words 2) (match 1 2 200) (rows 1 (opened (atClose 1) ∷ freeRows 1) ∷ [])
     ∷ done (words 2) (match 0 1 100)

@@ -8,9 +8,12 @@ use Rattle.definitions.specs.declared.Verdict.the-variants.{RejectS, Rej
 use Rattle.definitions.proofs.Run.{resultOn}
 use Rattle.definitions.proofs.Corner.{Corner, Entry, found, right, judged, security, terms, traded, plain, free, untraded, main, foreign, buy, sell, limit, ato, atc, mp, office, online, dma, entry}
 
--- order number 1 of a customer without rows, in a session
+-- order number 1 of a customer without rows, in a session, in a lone security and in the second of two
 abbrev pub meets : ℕ → List ℕ → Entry → Verdict → Corner
 meets session security e v = judged 5_000 session (security ∷ []) [] e v
+
+abbrev pub others : ℕ → List ℕ → Entry → Verdict → Corner
+others session second e v = judged 5_000 session (security plain untraded untraded ∷ second ∷ []) [] e v
 
 -- 100 shares: by type, and limits on the main and on the foreign board; 50.00 where the price does not matter
 abbrev pub typed : ℕ → ℕ → ℕ → Entry
@@ -205,6 +208,12 @@ corners =
     ∷ meets 1 (security (terms 100 0 1 2450 2450) (last 2650) (both 2450 2450)) (priced online 2650) Accept
     ∷ meets 1 (security (terms 100 0 1 2450 2650) (traded 0 0 2650 2650) (both 2650 2650)) (priced dma 2650) Warn10
     ∷ meets 1 (security (terms 100 0 1 0 2450) (traded 0 0 2450 2450) (both 2450 2450)) (priced online 2650) Accept
+    -- each rule of a sell by DMA or online in the second of two securities, on the foreign board but for warn 10
+    ∷ others 2 (security plain quoted (traded 0 0 0 5025)) (entry 1 1 foreign sell mp dma 0 100) RejectS
+    ∷ others 2 bare (entry 1 1 foreign sell limit dma 5000 10_000_100) RejectV
+    ∷ others 1 (freeAt untraded (projected 1000)) (entry 1 1 foreign sell limit dma 1510 100) RejectQ
+    ∷ others 2 (freeAt untraded (last 1000)) (entry 1 1 foreign sell limit dma 1310 100) Warn30
+    ∷ others 1 (security plain (projected 2450) untraded) (entry 1 1 main sell limit dma 2650 100) Warn10
     -- "first that applies"
     ∷ meets 3 bare (sized 5000 0) RejectS
     ∷ meets 1 (freeAt (projected 1000) untraded) (sized 1510 50) RejectV

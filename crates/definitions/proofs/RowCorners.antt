@@ -13,16 +13,24 @@ abbrev pub meets : ℕ → List ℕ → List (List ℕ) → Entry → Verdict �
 meets session prices rows e v =
     judged 100_000 session (security plain prices untraded ∷ security plain untraded untraded ∷ []) rows e v
 
+-- the customer's one row, number 1, open
+abbrev pub own : Entry → List (List ℕ)
+own e = opened e ∷ []
+
+-- the second of them has some prices on the foreign board, where the customer has one row and enters an order
+abbrev pub others : ℕ → List ℕ → Entry → Entry → Verdict → Corner
+others session prices held e v =
+    judged 100_000 session (security plain untraded untraded ∷ security plain untraded prices ∷ []) (own held) e v
+
+abbrev pub foreignAt : ℕ → ℕ → ℕ → ℕ → Entry
+foreignAt number side type price = entry number 1 foreign side type online price 100
+
 -- 100 shares in security 0, main board, online: a limit at a price, or another type
 abbrev pub priced : ℕ → ℕ → ℕ → Entry
 priced number side price = entry number 0 main side limit online price 100
 
 abbrev pub typed : ℕ → ℕ → ℕ → Entry
 typed number side type = entry number 0 main side type online 0 100
-
--- the customer's one row, number 1, open
-abbrev pub own : Entry → List (List ℕ)
-own e = opened e ∷ []
 
 abbrev pub ownSell : ℕ → List (List ℕ)
 ownSell price = own (priced 1 sell price)
@@ -77,9 +85,11 @@ corners =
     ∷ meets 2 untraded (cancelled 40_000 (priced 1 sell 5000) ∷ []) (buys 5000) Accept
     ∷ meets 2 untraded (own (entry 1 1 main sell limit online 5000 100)) (buys 5000) Accept
     ∷ meets 2 untraded (own (entry 1 0 foreign sell limit online 5000 100)) (buys 5000) Accept
+    ∷ meets 2 untraded (ownSell 5000) (entry 2 1 main buy limit online 5000 100) Accept
     ∷ meets 2 untraded (ownSell 5000) (entry 2 0 foreign buy limit online 5000 100) Accept
     ∷ meets 2 untraded (own (entry 1 0 foreign sell limit online 5000 100)) (entry 2 0 foreign buy limit online 5000 100) RejectW
     ∷ meets 2 untraded (own (entry 1 1 main sell limit online 5000 100)) (entry 2 1 main buy limit online 5000 100) RejectW
+    ∷ meets 2 untraded (own (entry 1 1 foreign buy limit online 5000 100)) (entry 2 1 foreign sell limit online 5000 100) RejectW
     ∷ meets 2 untraded (ownBuy 5000) (buys 5000) Accept
     ∷ meets 2 untraded (ownSell 5000) (sells 5000) Accept
     ∷ meets 2 untraded (opened (priced 1 buy 4900) ∷ opened (priced 3 sell 5000) ∷ []) (buys 5000) RejectW
@@ -140,12 +150,20 @@ corners =
     ∷ meets 4 projected (ownBuy 4975) (typed 2 sell atc) Accept
     ∷ meets 1 untraded (ownBuy 5000) (typed 2 sell ato) Accept
     ∷ meets 4 untraded (ownBuy 5000) (typed 2 sell atc) Accept
+    -- which limits against limits do not look at
+    ∷ meets 1 projected (ownSell 5000) (buys 4975) Accept
+    ∷ meets 1 projected (ownSell 5025) (buys 5000) Accept
+    ∷ meets 4 projected (ownBuy 5000) (sells 5025) Accept
+    ∷ meets 4 projected (ownBuy 4975) (sells 5000) Accept
     -- the projected price of the order's board
     ∷ meets 1 projected (own (entry 1 0 foreign sell ato online 0 100)) (entry 2 0 foreign buy limit online 5000 100) Accept
     ∷ meets 1 (traded 0 5000 5000 5000) (own (typed 1 sell ato)) (buys 5000) Accept
     ∷ judged 100_000 1 (security plain untraded projected ∷ []) (own (typed 1 sell ato)) (buys 5000) Accept
-    ∷ judged 100_000 1 (security plain untraded projected ∷ []) (own (entry 1 0 foreign sell ato online 0 100))
-    (entry 2 0 foreign buy limit online 5000 100) RejectW
+    ∷ others 1 projected (foreignAt 1 sell ato 0) (foreignAt 2 buy limit 5000) RejectW
+    ∷ others 1 projected (foreignAt 1 sell limit 5000) (foreignAt 2 buy ato 0) RejectW
+    ∷ others 4 projected (foreignAt 1 buy atc 0) (foreignAt 2 sell limit 5000) RejectW
+    ∷ others 4 projected (foreignAt 1 buy limit 5000) (foreignAt 2 sell atc 0) RejectW
+    ∷ others 4 untraded (foreignAt 1 buy atc 0) (foreignAt 2 sell atc 0) RejectW
     -- "MP buy if the best offer equals an own limit sell's price; MP sell likewise with the bid"
     ∷ meets 2 quoted (ownSell 5000) (typed 2 buy mp) Accept
     ∷ meets 2 quoted (ownSell 5025) (typed 2 buy mp) RejectW
@@ -159,14 +177,19 @@ corners =
     ∷ meets 2 quoted (ownSell 4975) (typed 2 sell mp) Accept
     ∷ meets 2 quoted (ownSell 5025) (entry 2 0 main buy mp office 0 100) Accept
     ∷ meets 2 quoted (ownSell 5025) (entry 2 0 main buy mp dma 0 100) Accept
-    ∷ judged 100_000 2 (security plain quoted (traded 0 0 5000 5050) ∷ []) (own (entry 1 0 foreign sell limit online 5050 100))
-    (entry 2 0 foreign buy mp online 0 100) RejectW
     ∷ judged 100_000 2 (security plain quoted (traded 0 0 5000 5050) ∷ []) (own (entry 1 0 foreign sell limit online 5025 100))
     (entry 2 0 foreign buy mp online 0 100) Accept
     ∷ judged 100_000 2 (security plain quoted (traded 0 0 5000 5050) ∷ []) (own (entry 1 0 foreign buy limit online 5000 100))
     (entry 2 0 foreign sell mp online 0 100) RejectW
     ∷ judged 100_000 2 (security plain quoted (traded 0 0 5000 5050) ∷ []) (own (entry 1 0 foreign buy limit online 4975 100))
     (entry 2 0 foreign sell mp online 0 100) Accept
+    ∷ others 2 quoted (foreignAt 1 sell limit 5025) (foreignAt 2 buy mp 0) RejectW
+    ∷ others 2 quoted (foreignAt 1 buy limit 4975) (foreignAt 2 sell mp 0) RejectW
+    -- and no other type by a best price
+    ∷ meets 2 quoted (ownSell 5025) (buys 5000) Accept
+    ∷ meets 2 quoted (ownBuy 4975) (sells 5000) Accept
+    ∷ meets 1 quoted (ownSell 5025) (typed 2 buy ato) Accept
+    ∷ meets 4 quoted (ownBuy 4975) (typed 2 sell atc) Accept
     -- and against no other type
     ∷ meets 2 (traded 5000 0 4975 5025) (own (typed 1 sell ato)) (typed 2 buy mp) Accept
     ∷ meets 2 (traded 5000 0 4975 5025) (own (typed 1 sell atc)) (typed 2 buy mp) Accept
