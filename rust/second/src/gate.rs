@@ -51,6 +51,11 @@ fn handle_or_refuse(words: &mut [u32], event: &[u8]) -> Result<Answer, Refusal> 
             number,
             volume,
         } => report_match(words, &header, customer, number, volume),
+        Event::Rest {
+            customer,
+            number,
+            price,
+        } => enter_rest(words, &header, customer, number, price),
     }
 }
 
@@ -262,6 +267,35 @@ fn report_match(
     if row.volume == 0 {
         desk.remove(index);
     }
+    desk.write(record);
+    Ok(Answer::Ok)
+}
+
+/// Condition 6 stands between those that a cancel and a match begin with, so
+/// this goes through the table by itself.
+fn enter_rest(
+    words: &mut [u32],
+    header: &Header,
+    customer: u16,
+    number: u32,
+    price: u32,
+) -> Result<Answer, Refusal> {
+    let place = header.desk_place(customer.into()).ok_or(Refusal::Name)?;
+    if number == 0 {
+        return Err(Refusal::Code);
+    }
+    if !ladder::legal(price) {
+        return Err(Refusal::Price);
+    }
+    let record = &mut words[place];
+    let mut desk = Desk::read(record, header.securities, header.clock).ok_or(Refusal::Record)?;
+    let index = desk.find_open(number).ok_or(Refusal::NoOpenRow)?;
+    let row = desk.row_mut(index);
+    if row.order_type != OrderType::Mp {
+        return Err(Refusal::NoOpenRow);
+    }
+    row.order_type = OrderType::Limit;
+    row.price = price;
     desk.write(record);
     Ok(Answer::Ok)
 }

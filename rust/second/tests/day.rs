@@ -41,7 +41,7 @@ fn nothing_read_is_only_the_opening() {
 
 #[test]
 fn an_unknown_kind_or_a_cut_event_ends_it() {
-    for kind in [0, 8, 255] {
+    for kind in [0, 9, 255] {
         let mut input = example();
         input.push(kind);
         input.extend(encode::session(OPEN));
@@ -51,7 +51,8 @@ fn an_unknown_kind_or_a_cut_event_ends_it() {
             format!("screen 8 16\n0 {kind} refused 3\n")
         );
     }
-    for (kind, length) in [(1, 5), (2, 2), (3, 14), (4, 20), (5, 21), (6, 7), (7, 11)] {
+    let lengths = [5, 2, 14, 20, 21, 7, 11, 11];
+    for (kind, length) in (1..).zip(lengths) {
         for left in 1..length {
             let mut input = example();
             input.push(kind);

@@ -94,7 +94,7 @@ fn number_1_comes_before_everything() {
             assert_eq!(would(&gate, &event[..event.len() - 1]), refused(1));
         }
         assert_eq!(would(&gate, &[]), refused(1));
-        assert_eq!(would(&gate, &[8]), refused(1));
+        assert_eq!(would(&gate, &[9]), refused(1));
     }
 }
 
@@ -173,7 +173,7 @@ fn numbers_2_and_3() {
         let mut longer = event.clone();
         longer.push(0);
         assert_eq!(would(&gate, &longer), refused(2));
-        for kind in [0, 8, 9, 255] {
+        for kind in [0, 9, 255] {
             let mut unknown = event.clone();
             unknown[0] = kind;
             assert_eq!(would(&gate, &unknown), refused(3));
