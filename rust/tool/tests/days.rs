@@ -64,7 +64,7 @@ fn more_bytes_than_the_day_program_reads() {
     let long = once.repeat(times);
     assert!(long.len() > 65_536);
     let listing = day(&[], &long);
-    let events = 48 * times;
+    let events = 61 * times;
     assert!(listing.contains(&format!("\n\n{events} events\n")));
     let answers = day(&["--quiet"], &long);
     assert_eq!(answers.lines().count(), events);
