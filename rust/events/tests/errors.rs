@@ -6,8 +6,8 @@ use events::{decode, encode, lines, text};
 #[rustfmt::skip]
 const BAD_LINES: &[(&str, &str)] = &[
     // the first word
-    ("open", r#""open": expected clock, session, setup, prices, order, cancel, match or bytes"#),
-    ("Order 0", r#""Order": expected clock, session, setup, prices, order, cancel, match or bytes"#),
+    ("open", r#""open": expected clock, session, setup, prices, order, cancel, match, rest or bytes"#),
+    ("Order 0", r#""Order": expected clock, session, setup, prices, order, cancel, match, rest or bytes"#),
     // words of a list, and fields by their names
     ("order 0 no 1 security 0 main buyy limit 50.00 x 100 online", r#""buyy": expected buy or sell"#),
     ("order 0 no 1 security 0 main BUY", r#""BUY": expected buy or sell"#),
@@ -111,7 +111,7 @@ fn no_text() {
 fn broken_events() {
     let table: [(&[u8], &str); 6] = [
         (&[0], "byte 0: kind 0 is unknown"),
-        (&[2, 2, 8, 0], "byte 2: kind 8 is unknown"),
+        (&[2, 2, 9, 0], "byte 2: kind 9 is unknown"),
         (
             &[2, 2, 2],
             "byte 2: an event of kind 2 takes 2 bytes, and 1 are left",
