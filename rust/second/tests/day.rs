@@ -72,12 +72,33 @@ fn other_refusals_do_not_end_it() {
         encode::clock(4),
         encode::order(&buy(1, 50_00, 0)),
         encode::match_report(7, 1, 1),
+        encode::rest(7, 1, 2_01),
+        encode::rest(7, 1, 2_02),
     ]
     .concat();
     assert_eq!(
         listing(&input),
         "screen 8 16\n0 2 ok\n1 6 refused 4\n2 1 refused 5\n3 1 ok\n4 1 refused 7\n\
-         5 5 reject V\n6 7 refused 10\n"
+         5 5 reject V\n6 7 refused 10\n7 8 refused 6\n8 8 refused 10\n"
+    );
+}
+
+#[test]
+fn what_is_left_of_a_market_order() {
+    let input = [
+        encode::session(OPEN),
+        prices(MAIN, [0, 50_00, 49_75, 50_25]),
+        encode::order(&priceless(MP, BUY, 1)),
+        encode::order(&sell(2, 50_25, 100)),
+        encode::rest(0, 1, 50_50),
+        encode::order(&sell(3, 50_50, 100)),
+        encode::rest(0, 1, 50_50),
+    ]
+    .concat();
+    assert_eq!(
+        listing(&input),
+        "screen 8 16\n0 2 ok\n1 4 ok\n2 5 accept\n3 5 accept\n4 8 ok\n5 5 reject W\n\
+         6 8 refused 10\n"
     );
 }
 
