@@ -146,9 +146,9 @@ mod tests {
             Event::Order(order) => {
                 vec![("customer", order.customer), ("security", order.security)]
             }
-            Event::Cancel { customer, .. } | Event::Match { customer, .. } => {
-                vec![("customer", customer)]
-            }
+            Event::Cancel { customer, .. }
+            | Event::Match { customer, .. }
+            | Event::Rest { customer, .. } => vec![("customer", customer)],
         };
         let of_kind = |(record, name): (_, u16)| (event[0], record, name.into());
         names.into_iter().map(of_kind).collect()

@@ -23,6 +23,11 @@ pub fn format(event: &Event) -> String {
             number,
             volume,
         } => format!("match {customer} no {number} x {volume}"),
+        Event::Rest {
+            customer,
+            number,
+            price,
+        } => format!("rest {customer} no {number} at {}", Price(*price)),
     }
 }
 

@@ -11,7 +11,7 @@ use crate::words::{BOARDS, CHANNELS, LIMIT, SESSIONS, SIDES, TYPES};
 type Reader = fn(&mut LineWords) -> Result<Vec<u8>, String>;
 
 /// The first word of a line, and how the rest is read.
-const KINDS: [(&str, Reader); 8] = [
+const KINDS: [(&str, Reader); 9] = [
     ("clock", |words| clock(words).map(bytes_of)),
     ("session", |words| session(words).map(bytes_of)),
     ("setup", |words| setup(words).map(bytes_of)),
@@ -19,6 +19,7 @@ const KINDS: [(&str, Reader); 8] = [
     ("order", |words| order(words).map(bytes_of)),
     ("cancel", |words| cancel(words).map(bytes_of)),
     ("match", |words| match_report(words).map(bytes_of)),
+    ("rest", |words| rest(words).map(bytes_of)),
     ("bytes", bytes),
 ];
 
@@ -129,6 +130,16 @@ fn match_report(words: &mut LineWords) -> Result<Event, String> {
         customer,
         number,
         volume: volume(words)?,
+    })
+}
+
+fn rest(words: &mut LineWords) -> Result<Event, String> {
+    let (customer, number) = customer_and_number(words)?;
+    words.keyword("at")?;
+    Ok(Event::Rest {
+        customer,
+        number,
+        price: words.price()?,
     })
 }
 

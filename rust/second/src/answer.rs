@@ -15,7 +15,7 @@ pub enum Rule {
 /// The answer to one event, or to the making of a fresh state.
 #[derive(Clone, Copy, Debug, PartialEq, Eq)]
 pub enum Answer {
-    /// A market event, a cancel or a match was carried out.
+    /// A market event, a cancel, a match or a rest was carried out.
     Ok,
     Accept,
     Warn30,

@@ -37,7 +37,8 @@ codes!(
 codes!(Side { Buy = 0, Sell = 1 });
 
 codes!(
-    /// Type of an order. `Mp` (market price) never has a row.
+    /// Type of an order. The row of an `Mp` (market price) order becomes a
+    /// `Limit` once the exchange gives the price of what is left.
     OrderType { Limit = 0, Ato = 1, Atc = 2, Mp = 3 }
 );
 

@@ -58,6 +58,14 @@ pub fn match_report(customer: u16, number: u32, volume: u32) -> Vec<u8> {
         .done()
 }
 
+pub fn rest(customer: u16, number: u32, price: u32) -> Vec<u8> {
+    Bytes::of_kind(8)
+        .u16(customer)
+        .u32(number)
+        .u32(price)
+        .done()
+}
+
 /// The bytes that [`crate::event::decode`] reads as this event.
 pub fn event(event: &Event) -> Vec<u8> {
     match event {
@@ -72,6 +80,11 @@ pub fn event(event: &Event) -> Vec<u8> {
             number,
             volume,
         } => match_report(*customer, *number, *volume),
+        Event::Rest {
+            customer,
+            number,
+            price,
+        } => rest(*customer, *number, *price),
     }
 }
 
@@ -147,6 +160,11 @@ mod tests {
                 customer: 0x0102,
                 number: 0x0304_0506,
                 volume: 0x0708_090a,
+            },
+            Event::Rest {
+                customer: 0x0102,
+                number: 0x0304_0506,
+                price: 0x0708_090a,
             },
         ];
         for fields in events {

@@ -23,6 +23,12 @@ pub enum Event {
         number: u32,
         volume: u32,
     },
+    /// What is left of an MP order stays in the book as a limit at this price.
+    Rest {
+        customer: u16,
+        number: u32,
+        price: u32,
+    },
 }
 
 #[derive(Clone, Copy, Debug, PartialEq, Eq)]
@@ -59,7 +65,7 @@ pub struct Order {
 }
 
 /// How many bytes an event of this kind takes, the kind byte included.
-/// `None` if the kind is not 1 to 7.
+/// `None` if the kind is not 1 to 8.
 pub fn length(kind: u8) -> Option<usize> {
     match kind {
         1 => Some(5),
@@ -68,7 +74,7 @@ pub fn length(kind: u8) -> Option<usize> {
         4 => Some(20),
         5 => Some(21),
         6 => Some(7),
-        7 => Some(11),
+        7 | 8 => Some(11),
         _ => None,
     }
 }
@@ -126,6 +132,11 @@ fn decode_body(kind: u8, mut fields: Fields) -> Option<Event> {
             customer: fields.u16()?,
             number: fields.u32()?,
             volume: fields.u32()?,
+        },
+        8 => Event::Rest {
+            customer: fields.u16()?,
+            number: fields.u32()?,
+            price: fields.u32()?,
         },
         _ => return None,
     })
@@ -223,6 +234,15 @@ mod tests {
                 customer: 0x0908,
                 number: 0x0d0c_0b0a,
                 volume: 0x1110_0f0e,
+            })
+        );
+        let bytes: Vec<u8> = (8..19).collect();
+        assert_eq!(
+            decode(&bytes),
+            Ok(Event::Rest {
+                customer: 0x0a09,
+                number: 0x0e0d_0c0b,
+                price: 0x1211_100f,
             })
         );
     }

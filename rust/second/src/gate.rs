@@ -3,6 +3,8 @@
 //! Every handler goes through the paper's table from top to bottom and writes
 //! only after its last check, so a refusal changes no word.
 
+use std::ops::Range;
+
 use crate::answer::{Answer, Refusal};
 use crate::codes::{Board, Channel, OrderType, Session, Side, flag, is_lot};
 use crate::event::{self, Event};
@@ -51,6 +53,11 @@ fn handle_or_refuse(words: &mut [u32], event: &[u8]) -> Result<Answer, Refusal> 
             number,
             volume,
         } => report_match(words, &header, customer, number, volume),
+        Event::Rest {
+            customer,
+            number,
+            price,
+        } => enter_rest(words, &header, customer, number, price),
     }
 }
 
@@ -90,7 +97,7 @@ fn set_session(words: &mut [u32], mut header: Header, session: u8) -> Result<Ans
     }
     for record in words[header.desks_place()].chunks_exact_mut(DESK_WORDS) {
         if let Some(mut desk) = Desk::read(record, header.securities, header.clock) {
-            desk.remove_ato_and_atc();
+            desk.keep_limits();
             desk.write(record);
         }
     }
@@ -181,9 +188,7 @@ fn screen(words: &mut [u32], header: &Header, event: &event::Order) -> Result<An
     };
     *counter = counter.saturating_add(1);
 
-    let leaves_a_row = matches!(verdict, Answer::Accept | Answer::Warn30 | Answer::Warn10)
-        && order.order_type != OrderType::Mp;
-    if leaves_a_row {
+    if matches!(verdict, Answer::Accept | Answer::Warn30 | Answer::Warn10) {
         // The desk is still only a copy: the refusal drops the counter with it.
         if desk.live_rows(header.clock) == ROWS {
             return Err(Refusal::DeskFull);
@@ -235,7 +240,8 @@ fn cancel(
     customer: u16,
     number: u32,
 ) -> Result<Answer, Refusal> {
-    let (record, mut desk, index) = take_open_row(words, header, customer, number)?;
+    let record = &mut words[desk_of_row(header, customer, number)?];
+    let (mut desk, index) = take_open_row(record, header, number)?;
     let row = desk.row_mut(index);
     if row.order_type == OrderType::Limit {
         row.mark = Mark::Cancelled { at: header.clock };
@@ -253,7 +259,8 @@ fn report_match(
     number: u32,
     volume: u32,
 ) -> Result<Answer, Refusal> {
-    let (record, mut desk, index) = take_open_row(words, header, customer, number)?;
+    let record = &mut words[desk_of_row(header, customer, number)?];
+    let (mut desk, index) = take_open_row(record, header, number)?;
     let row = desk.row_mut(index);
     if volume == 0 || volume > row.volume {
         return Err(Refusal::MatchVolume);
@@ -266,20 +273,44 @@ fn report_match(
     Ok(Answer::Ok)
 }
 
-/// What a cancel and a match begin with: the desk's words, the desk taken out
-/// of them, and where in it the open row with the number stands.
-fn take_open_row<'a>(
-    words: &'a mut [u32],
+/// "It makes an open type 3 row a limit at that ladder price." Paper 02 gives
+/// the event no verdict, so no rule is asked and no counter moves.
+fn enter_rest(
+    words: &mut [u32],
     header: &Header,
     customer: u16,
     number: u32,
-) -> Result<(&'a mut [u32], Desk, usize), Refusal> {
+    price: u32,
+) -> Result<Answer, Refusal> {
+    let place = desk_of_row(header, customer, number)?;
+    if !ladder::legal(price) {
+        return Err(Refusal::Price);
+    }
+    let record = &mut words[place];
+    let (mut desk, index) = take_open_row(record, header, number)?;
+    let row = desk.row_mut(index);
+    if row.order_type != OrderType::Mp {
+        return Err(Refusal::NoOpenRow);
+    }
+    row.order_type = OrderType::Limit;
+    row.price = price;
+    desk.write(record);
+    Ok(Answer::Ok)
+}
+
+/// Conditions 4 and 5 of an event that names a row: where its desk stands.
+fn desk_of_row(header: &Header, customer: u16, number: u32) -> Result<Range<usize>, Refusal> {
     let place = header.desk_place(customer.into()).ok_or(Refusal::Name)?;
     if number == 0 {
         return Err(Refusal::Code);
     }
-    let record = &mut words[place];
+    Ok(place)
+}
+
+/// Conditions 8 and 10 of an event that names a row: the desk taken out of its
+/// words, and where in it the open row with the number stands.
+fn take_open_row(record: &[u32], header: &Header, number: u32) -> Result<(Desk, usize), Refusal> {
     let desk = Desk::read(record, header.securities, header.clock).ok_or(Refusal::Record)?;
     let index = desk.find_open(number).ok_or(Refusal::NoOpenRow)?;
-    Ok((record, desk, index))
+    Ok((desk, index))
 }

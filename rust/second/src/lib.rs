@@ -1,5 +1,6 @@
-//! The order gate a second time, written from the scope paper (01) alone, so
-//! that its answers and words can be compared with the first implementation's.
+//! The order gate a second time, written from the scope paper (01) and the
+//! requests of paper 02 alone, so that its answers and words can be compared
+//! with the first implementation's.
 
 #![forbid(unsafe_code)]
 

@@ -32,11 +32,11 @@ pub fn belongs(event: &[u8], customers: u32) -> Owner {
 
 /// The kind of a whole event, or the refusal that its bytes get.
 fn kind_of(event: &[u8]) -> Result<u8, Answer> {
-    const LENGTHS: [usize; 7] = [5, 2, 14, 20, 21, 7, 11];
+    const LENGTHS: [usize; 8] = [5, 2, 14, 20, 21, 7, 11, 11];
     match event {
         [] => Err(Answer::Refused(2)),
-        [kind @ 1..=7, ..] if LENGTHS[usize::from(kind - 1)] == event.len() => Ok(*kind),
-        [1..=7, ..] => Err(Answer::Refused(2)),
+        [kind @ 1..=8, ..] if LENGTHS[usize::from(kind - 1)] == event.len() => Ok(*kind),
+        [1..=8, ..] => Err(Answer::Refused(2)),
         _ => Err(Answer::Refused(3)),
     }
 }
@@ -167,7 +167,8 @@ impl LoneRun {
             Ok(4) => self.prices(event),
             Ok(5) => self.order(event),
             Ok(6) => self.cancel(event),
-            Ok(_) => self.match_report(event),
+            Ok(7) => self.match_report(event),
+            Ok(_) => self.rest(event),
         };
         done.unwrap_or_else(Answer::Refused)
     }
@@ -227,7 +228,7 @@ impl LoneRun {
                 board.projected = 0;
             }
             self.rows
-                .retain(|row| row.order_type != ATO && row.order_type != ATC);
+                .retain(|row| ![ATO, ATC, MP].contains(&row.order_type));
         }
         Ok(Answer::Ok)
     }
@@ -304,7 +305,7 @@ impl LoneRun {
 
         let verdict = self.verdict(&ticket);
         let is_rejected = matches!(verdict, Answer::Reject(_));
-        if !is_rejected && ticket.order_type != MP {
+        if !is_rejected {
             refuse_if(
                 self.rows.iter().filter(|row| remembered(row)).count() == 32,
                 12,
@@ -355,6 +356,20 @@ impl LoneRun {
         Ok(Answer::Ok)
     }
 
+    /// Kind 8: what is left of an MP order is a limit now.
+    fn rest(&mut self, event: &[u8]) -> Result<Answer, u8> {
+        self.own(event)?;
+        let number = field(event, 3, 4);
+        let price = field(event, 7, 4);
+        refuse_if(number == 0, 5)?;
+        refuse_if(!ladder::legal(price), 6)?;
+        let place = self.open_row(number)?;
+        refuse_if(self.rows[place].order_type != MP, 10)?;
+        self.rows[place].order_type = LIMIT;
+        self.rows[place].price = price;
+        Ok(Answer::Ok)
+    }
+
     /// Condition 4 for the customer that an event names.
     fn own(&self, event: &[u8]) -> Result<(), u8> {
         let customer = field(event, 1, 2);
@@ -363,7 +378,7 @@ impl LoneRun {
         Ok(())
     }
 
-    /// Conditions 5 and 10 of a cancel or a match.
+    /// Conditions 5 and 10 of an event that names a row.
     fn open_row(&self, number: u32) -> Result<usize, u8> {
         refuse_if(number == 0, 5)?;
         self.rows
@@ -447,8 +462,10 @@ impl LoneRun {
         }
         let board = &security.boards[ticket.board as usize];
         let projected = if self.in_call() { board.projected } else { 0 };
+        // A row of type 3 has no price yet, and no sentence of W names it.
         let opposite = |row: &&Standing| {
             row.cancelled.is_none()
+                && row.order_type != MP
                 && row.security == ticket.security
                 && row.board == ticket.board
                 && row.side == 1 - ticket.side

@@ -128,6 +128,7 @@ fn would_meet(scene: &Scene, order: &Order, row: &Row) -> bool {
         (Limit, Ato | Atc) => projected.is_some_and(|at| reaches(order.side, order.price, at)),
         (Ato | Atc, Limit) => projected.is_some_and(|at| reaches(row.side, row.price, at)),
         (Mp, Limit) => best_opposite(quotes, order.side) == row.price,
+        // Paper 02: an MP row is compared with only once it is a limit.
         (Mp, Ato | Atc) | (_, Mp) => false,
     }
 }

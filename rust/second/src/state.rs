@@ -272,8 +272,7 @@ impl Row {
         };
         let type_sound = match row.order_type {
             OrderType::Limit => ladder::legal(price),
-            OrderType::Ato | OrderType::Atc => price == 0 && row.is_open(),
-            OrderType::Mp => false,
+            OrderType::Ato | OrderType::Atc | OrderType::Mp => price == 0 && row.is_open(),
         };
         let sound =
             type_sound && number > 0 && security < securities && (1..=MAX_VOLUME).contains(&volume);
@@ -422,7 +421,8 @@ impl Desk {
         self.marked = kept;
     }
 
-    pub fn remove_ato_and_atc(&mut self) {
+    /// What a session change leaves: no ATO, ATC or MP row.
+    pub fn keep_limits(&mut self) {
         self.retain(|row| row.order_type == OrderType::Limit);
     }
 

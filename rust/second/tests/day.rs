@@ -41,7 +41,7 @@ fn nothing_read_is_only_the_opening() {
 
 #[test]
 fn an_unknown_kind_or_a_cut_event_ends_it() {
-    for kind in [0, 8, 255] {
+    for kind in [0, 9, 255] {
         let mut input = example();
         input.push(kind);
         input.extend(encode::session(OPEN));
@@ -51,7 +51,8 @@ fn an_unknown_kind_or_a_cut_event_ends_it() {
             format!("screen 8 16\n0 {kind} refused 3\n")
         );
     }
-    for (kind, length) in [(1, 5), (2, 2), (3, 14), (4, 20), (5, 21), (6, 7), (7, 11)] {
+    let lengths = [5, 2, 14, 20, 21, 7, 11, 11];
+    for (kind, length) in (1..).zip(lengths) {
         for left in 1..length {
             let mut input = example();
             input.push(kind);
@@ -71,12 +72,33 @@ fn other_refusals_do_not_end_it() {
         encode::clock(4),
         encode::order(&buy(1, 50_00, 0)),
         encode::match_report(7, 1, 1),
+        encode::rest(7, 1, 2_01),
+        encode::rest(7, 1, 2_02),
     ]
     .concat();
     assert_eq!(
         listing(&input),
         "screen 8 16\n0 2 ok\n1 6 refused 4\n2 1 refused 5\n3 1 ok\n4 1 refused 7\n\
-         5 5 reject V\n6 7 refused 10\n"
+         5 5 reject V\n6 7 refused 10\n7 8 refused 6\n8 8 refused 10\n"
+    );
+}
+
+#[test]
+fn what_is_left_of_a_market_order() {
+    let input = [
+        encode::session(OPEN),
+        prices(MAIN, [0, 50_00, 49_75, 50_25]),
+        encode::order(&priceless(MP, BUY, 1)),
+        encode::order(&sell(2, 50_25, 100)),
+        encode::rest(0, 1, 50_50),
+        encode::order(&sell(3, 50_50, 100)),
+        encode::rest(0, 1, 50_50),
+    ]
+    .concat();
+    assert_eq!(
+        listing(&input),
+        "screen 8 16\n0 2 ok\n1 4 ok\n2 5 accept\n3 5 accept\n4 8 ok\n5 5 reject W\n\
+         6 8 refused 10\n"
     );
 }
 

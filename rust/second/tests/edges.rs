@@ -203,13 +203,14 @@ fn mp_needs_a_price_opposite_on_its_own_board() {
 }
 
 #[test]
-fn mp_leaves_no_row_but_counts() {
+fn mp_takes_a_row_and_counts() {
     let mut gate = Gate::new(1, 1);
     gate.session(OPEN).ok(&prices(MAIN, [0, 0, 49_75, 50_25]));
     assert_eq!(gate.order(priceless(MP, BUY, 1)), ACCEPT);
-    assert_eq!(gate.order(priceless(MP, BUY, 1)), ACCEPT);
+    assert_eq!(gate.order(priceless(MP, BUY, 2)), ACCEPT);
     assert_eq!(gate.counters(0), [2, 0, 0]);
-    assert!(gate.numbers(0).is_empty());
+    assert_eq!(gate.row(0, 0), [1, 1, 0, 0, 0, 3, 0, 100, 0]);
+    assert_eq!(gate.row(0, 1), [1, 2, 0, 0, 0, 3, 0, 100, 0]);
 }
 
 // ---- V ----
@@ -807,10 +808,10 @@ fn only_an_order_that_gets_a_row_removes_old_cancels() {
     gate.ok(&prices(MAIN, [0, 0, 0, 50_25]));
     gate.clock(61_001);
     assert_eq!(gate.order(buy(2, 50_00, 150)), V);
-    assert_eq!(gate.order(priceless(MP, BUY, 3)), ACCEPT);
+    assert_eq!(gate.order(priceless(MP, SELL, 3)), S);
     assert_eq!(gate.numbers(0), [1]);
     // Its number is free again, also for an order that leaves the row standing.
-    assert_eq!(gate.order(priceless(MP, BUY, 1)), ACCEPT);
+    assert_eq!(gate.order(priceless(MP, SELL, 1)), S);
     assert_eq!(gate.numbers(0), [1]);
     assert_eq!(gate.order(buy(1, 50_00, 200)), ACCEPT);
     assert_eq!(gate.row(0, 0), [1, 1, 0, 0, 0, 0, 50_00, 200, 0]);

@@ -15,7 +15,7 @@ use second::{encode, gate, ladder};
 /// come about often enough.
 #[derive(Clone, Copy)]
 struct Lean {
-    /// One event in so many is a cancel or a match, beside the orders.
+    /// One event in so many is a cancel, a match or a rest, beside the orders.
     removal: u32,
     /// One event in so many is a market event.
     market: u32,
@@ -261,17 +261,22 @@ impl Writer {
         encode::order(&order)
     }
 
+    /// A cancel, a match or a rest.
     fn removal(&mut self) -> Vec<u8> {
         let Order {
             mut customer,
             number,
+            order_type,
             volume,
             ..
         } = self.recent().unwrap_or(buy(1, 50_00, 100));
         if self.random.once_in(15) {
             customer = self.name(self.customers);
         }
-        if self.random.once_in(3) {
+        if self.random.once_in(if order_type == MP { 2 } else { 20 }) {
+            let price = self.price();
+            encode::rest(customer, number, price)
+        } else if self.random.once_in(3) {
             let volume = self
                 .random
                 .pick(&[0, 50, 100, 100, 200, volume / 2, volume]);
@@ -308,6 +313,7 @@ fn history(seed: u64) -> (Vec<Vec<u8>>, u32, u32) {
 #[test]
 fn the_gate_answers_as_the_lone_runs() {
     let mut seen: BTreeMap<String, u32> = BTreeMap::new();
+    let mut rests: BTreeMap<String, u32> = BTreeMap::new();
     for seed in 0..6_000 {
         let (events, customers, securities) = history(seed);
         let mut gate = Gate::new(customers, securities);
@@ -317,6 +323,9 @@ fn the_gate_answers_as_the_lone_runs() {
         for (index, event) in events.iter().enumerate() {
             let answer = gate.send(event);
             *seen.entry(answer.to_string()).or_default() += 1;
+            if event.first() == Some(&8) {
+                *rests.entry(answer.to_string()).or_default() += 1;
+            }
             let fed = match belongs(event, customers) {
                 Owner::Market => 0..customers as usize,
                 Owner::Customer(k) => k as usize..k as usize + 1,
@@ -356,12 +365,24 @@ fn the_gate_answers_as_the_lone_runs() {
         "refused 11",
         "refused 12",
     ];
-    println!("{seen:#?}");
+    println!("{seen:#?} {rests:#?}");
     for answer in expected {
         let times = seen.remove(answer).unwrap_or(0);
         assert!(times >= 100, "{answer} came only {times} times");
     }
     assert!(seen.is_empty(), "never from a fresh state: {seen:?}");
+    for answer in [
+        "ok",
+        "refused 2",
+        "refused 4",
+        "refused 5",
+        "refused 6",
+        "refused 10",
+    ] {
+        let times = rests.remove(answer).unwrap_or(0);
+        assert!(times >= 20, "{answer} came only {times} times from kind 8");
+    }
+    assert!(rests.is_empty(), "never from kind 8: {rests:?}");
 }
 
 #[test]
@@ -400,6 +421,7 @@ fn to_whom_an_event_belongs() {
         (vec![], Owner::Nobody),
         (vec![0], Owner::Nobody),
         (vec![8, 0, 0], Owner::Nobody),
+        (vec![9, 0, 0, 0, 0, 0, 0, 0, 0, 0, 0], Owner::Nobody),
         (vec![1, 0, 0, 0], Owner::Nobody),
         (encode::clock(u32::MAX), Owner::Market),
         (encode::session(9), Owner::Market),
@@ -413,6 +435,8 @@ fn to_whom_an_event_belongs() {
         (encode::cancel(4, 1), Owner::Nobody),
         (encode::match_report(2, 0, 0), Owner::Customer(2)),
         (encode::match_report(u16::MAX, 1, 1), Owner::Nobody),
+        (encode::rest(3, 0, 0), Owner::Customer(3)),
+        (encode::rest(4, 1, 50_00), Owner::Nobody),
     ];
     for (event, owner) in table {
         assert_eq!(belongs(&event, 4), owner, "{event:?}");
@@ -448,7 +472,7 @@ mod soundness {
                     && row[2] < securities
                     && row[3] <= 1
                     && row[4] <= 1
-                    && row[5] <= 2
+                    && row[5] <= 3
                     && (if row[5] == 0 {
                         legal(row[6])
                     } else {
@@ -555,7 +579,7 @@ fn any_words_and_any_bytes() {
         }
         let event: Vec<u8> = (0..random.below(24))
             .map(|at| match at {
-                0 => random.below(9) as u8,
+                0 => random.below(10) as u8,
                 _ => random.next() as u8,
             })
             .collect();

@@ -26,7 +26,8 @@ const PRICES: Prices = Prices {
 };
 
 /// Two customers, three securities, open session, clock 100,000. Customer 0 has
-/// an open buy no. 1 of 500 at 50.00 and a buy no. 2 cancelled at 100,000.
+/// an open buy no. 1 of 500 at 50.00, a buy no. 2 cancelled at 100,000 and an
+/// open MP buy no. 4 of 100.
 fn gate() -> Gate {
     let mut gate = Gate::new(2, 3);
     gate.session(OPEN)
@@ -35,11 +36,12 @@ fn gate() -> Gate {
     assert_eq!(gate.order(buy(1, 50_00, 500)), ACCEPT);
     assert_eq!(gate.order(buy(2, 50_00, 500)), ACCEPT);
     assert_eq!(gate.cancel(0, 2), OK);
+    assert_eq!(gate.order(priceless(MP, BUY, 4)), ACCEPT);
     gate
 }
 
 /// One good event of each kind for that state.
-fn one_of_each() -> [Vec<u8>; 7] {
+fn one_of_each() -> [Vec<u8>; 8] {
     [
         encode::clock(100_000),
         encode::session(OPEN),
@@ -48,6 +50,7 @@ fn one_of_each() -> [Vec<u8>; 7] {
         encode::order(&buy(3, 50_00, 100)),
         encode::cancel(0, 1),
         encode::match_report(0, 1, 100),
+        encode::rest(0, 4, 50_25),
     ]
 }
 
@@ -94,7 +97,7 @@ fn number_1_comes_before_everything() {
             assert_eq!(would(&gate, &event[..event.len() - 1]), refused(1));
         }
         assert_eq!(would(&gate, &[]), refused(1));
-        assert_eq!(would(&gate, &[8]), refused(1));
+        assert_eq!(would(&gate, &[9]), refused(1));
     }
 }
 
@@ -173,7 +176,7 @@ fn numbers_2_and_3() {
         let mut longer = event.clone();
         longer.push(0);
         assert_eq!(would(&gate, &longer), refused(2));
-        for kind in [0, 8, 9, 255] {
+        for kind in [0, 9, 255] {
             let mut unknown = event.clone();
             unknown[0] = kind;
             assert_eq!(would(&gate, &unknown), refused(3));
@@ -205,6 +208,7 @@ fn number_4() {
             }),
             encode::cancel(customer, 1),
             encode::match_report(customer, 1, 100),
+            encode::rest(customer, 4, 50_25),
         ] {
             assert_eq!(would(&gate, &event), refused(4));
         }
@@ -242,6 +246,7 @@ fn number_4_before_5_and_6() {
         }),
         encode::cancel(2, 0),
         encode::match_report(2, 0, 0),
+        encode::rest(2, 0, 2_01),
     ] {
         assert_eq!(would(&gate, &event), refused(4));
     }
@@ -278,6 +283,7 @@ fn number_5() {
         encode::order(&Order { number: 0, ..order }),
         encode::cancel(0, 0),
         encode::match_report(0, 0, 100),
+        encode::rest(0, 0, 50_25),
     ];
     for event in events {
         assert_eq!(would(&gate, &event), refused(5), "{event:?}");
@@ -312,6 +318,7 @@ fn number_5_before_6() {
             order_type: 4,
             ..buy(3, 50_00, 100)
         }),
+        encode::rest(0, 0, 2_01),
     ] {
         assert_eq!(would(&gate, &event), refused(5));
     }
@@ -343,6 +350,7 @@ fn number_6() {
                 ..PRICES
             }),
             encode::order(&buy(3, price, 100)),
+            encode::rest(0, 4, price),
         ] {
             assert_eq!(would(&gate, &event), refused(6));
         }
@@ -352,6 +360,7 @@ fn number_6() {
     assert_eq!(would(&gate, &ipo(10_000_000)), OK);
     assert_eq!(would(&gate, &ipo(10_000_001)), refused(6));
     assert_eq!(would(&gate, &encode::order(&buy(3, 0, 100))), refused(6));
+    assert_eq!(would(&gate, &encode::rest(0, 4, 0)), refused(6));
     for order_type in [ATO, ATC, MP] {
         for price in [1, 50_00, u32::MAX] {
             let order = Order {
@@ -364,9 +373,10 @@ fn number_6() {
 }
 
 #[test]
-fn number_6_before_8_and_9() {
+fn number_6_before_8_to_10() {
     let gate = gate();
     assert_eq!(would(&gate, &encode::order(&buy(1, 2_01, 100))), refused(6));
+    assert_eq!(would(&gate, &encode::rest(0, 77, 2_01)), refused(6));
     let mut damaged = gate.clone();
     damaged.words[4] = 3;
     let event = encode::setup(&Setup {
@@ -374,6 +384,9 @@ fn number_6_before_8_and_9() {
         ..SETUP
     });
     assert_eq!(would(&damaged, &event), refused(6));
+    let desk = damaged.desk_start(0);
+    damaged.words[desk + 3] = 3;
+    assert_eq!(would(&damaged, &encode::rest(0, 4, 2_01)), refused(6));
 }
 
 #[test]
@@ -406,14 +419,15 @@ fn security_damages() -> Vec<(usize, u32)> {
     damages
 }
 
-/// Damages to a desk that has row 0 open (number 1) and row 1 cancelled at the
-/// clock (number 2), in a state of 3 securities at clock 100,000.
+/// Damages to a desk that has row 0 open (number 1), row 1 cancelled at the
+/// clock (number 2) and row 2 open of type 3 (number 4), in a state of 3
+/// securities at clock 100,000.
 fn desk_damages() -> Vec<(usize, u32)> {
     let row = |row: usize, word: usize| 3 + 9 * row + word;
     let mut damages = vec![
         // A gap, and a mark on a free row.
         (row(0, 0), 0),
-        (row(2, 0), 1),
+        (row(3, 0), 1),
         (row(1, 0), 0),
         // An open row with a cancel time; the same number twice.
         (row(0, 8), 1),
@@ -425,6 +439,17 @@ fn desk_damages() -> Vec<(usize, u32)> {
         (row(1, 8), u32::MAX),
         (row(1, 5), 1),
         (row(1, 5), 2),
+        // Type 3: cancelled, with a price, with a cancel time.
+        (row(2, 0), 2),
+        (row(2, 6), 1),
+        (row(2, 6), 50_00),
+        (row(2, 6), 2_01),
+        (row(2, 8), 1),
+        // A limit without a price, and no type at all.
+        (row(2, 5), 0),
+        (row(2, 5), 4),
+        (row(2, 7), 0),
+        (row(2, 7), 20_000_001),
     ];
     for marked in [0, 1] {
         damages.extend([
@@ -445,7 +470,7 @@ fn desk_damages() -> Vec<(usize, u32)> {
             (row(marked, 7), 20_000_001),
         ]);
     }
-    for free in [2, 31] {
+    for free in [3, 31] {
         damages.extend((0..9).map(|word| (row(free, word), 1)));
     }
     damages
@@ -488,6 +513,7 @@ fn number_8_for_a_security() {
                 }),
                 encode::cancel(0, 1),
                 encode::match_report(0, 1, 100),
+                encode::rest(0, 4, 50_25),
             ] {
                 assert_eq!(would(&gate, &event), OK);
             }
@@ -518,6 +544,8 @@ fn number_8_for_a_desk() {
             encode::cancel(0, 77),
             encode::match_report(0, 1, 100),
             encode::match_report(0, 77, 0),
+            encode::rest(0, 4, 50_25),
+            encode::rest(0, 77, 50_25),
         ] {
             assert_eq!(would(&gate, &event), refused(8), "{word} {value}");
         }
@@ -534,6 +562,7 @@ fn number_8_for_a_desk() {
         };
         assert_eq!(gate.would(other), ACCEPT);
         assert_eq!(gate.cancel(1, 1), refused(10));
+        assert_eq!(would(&gate, &encode::rest(1, 4, 50_25)), refused(10));
     }
 }
 
@@ -541,7 +570,7 @@ fn number_8_for_a_desk() {
 fn number_8_for_a_cancelled_row_that_is_no_limit() {
     let whole = gate();
     let row = whole.desk_start(0) + 3 + 9;
-    for order_type in [1, 2] {
+    for order_type in [1, 2, 3] {
         let mut gate = whole.clone();
         gate.words[row + 5] = order_type;
         gate.words[row + 6] = 0;
@@ -574,8 +603,8 @@ fn sound_words_at_the_ends_of_their_ranges_are_not_refused_8() {
         gate.words[start + word] = value;
         assert_eq!(would(&gate, &encode::session(CLOSED)), OK, "{word} {value}");
     }
-    // ATO and ATC rows, whatever the session.
-    for order_type in [1, 2] {
+    // ATO, ATC and MP rows, whatever the session.
+    for order_type in [1, 2, 3] {
         gate.words[start + row(0, 5)] = order_type;
         gate.words[start + row(0, 6)] = 0;
         let mut after = gate.clone();
@@ -587,10 +616,10 @@ fn sound_words_at_the_ends_of_their_ranges_are_not_refused_8() {
 #[test]
 fn number_9() {
     let mut gate = gate();
-    for number in [1, 2] {
+    for number in [1, 2, 4] {
         for order in [
             buy(number, 50_00, 100),
-            // Whatever the verdict would be, and for orders without a row.
+            // Whatever the verdict would be, and whatever the type.
             buy(number, 50_00, 0),
             priceless(MP, BUY, number),
             priceless(ATO, BUY, number),
@@ -643,16 +672,16 @@ fn number_12() {
     assert_eq!(gate.order(buy(32, 49_00, 100)), ACCEPT);
     assert_eq!(gate.counters(0), [32, 0, 0]);
 
-    // Accept and warn are refused and not counted; rejections and MP go on.
+    // Accept and warn are refused and not counted; rejections go on.
     assert_eq!(gate.order(buy(33, 49_00, 100)), refused(12));
     assert_eq!(gate.order(buy(33, 90_00, 100)), refused(12));
+    assert_eq!(gate.order(priceless(MP, BUY, 33)), refused(12));
     assert_eq!(gate.counters(0), [32, 0, 0]);
     assert_eq!(gate.order(buy(33, 49_00, 0)), V);
     assert_eq!(gate.order(sell(33, 49_00, 100)), W);
     assert_eq!(gate.order(priceless(ATO, BUY, 33)), S);
-    assert_eq!(gate.order(priceless(MP, BUY, 33)), ACCEPT);
     assert_eq!(gate.order(buy(5, 49_00, 100)), refused(9));
-    assert_eq!(gate.counters(0), [33, 0, 3]);
+    assert_eq!(gate.counters(0), [32, 0, 3]);
     let other = Order {
         customer: 1,
         ..buy(33, 49_00, 100)
@@ -668,7 +697,7 @@ fn number_12() {
     assert_eq!(gate.order(buy(33, 90_00, 100)), WARN_30);
     let numbers: Vec<u32> = (1..=33).filter(|&number| number != 7).collect();
     assert_eq!(gate.numbers(0), numbers);
-    assert_eq!(gate.counters(0), [33, 1, 3]);
+    assert_eq!(gate.counters(0), [32, 1, 3]);
     assert_eq!(gate.order(buy(34, 49_00, 100)), refused(12));
 
     // ATO and ATC fill a desk as well.

@@ -94,6 +94,10 @@ impl Gate {
         self.send(&encode::match_report(customer, number, volume))
     }
 
+    pub fn rest(&mut self, customer: u16, number: u32, price: u32) -> Answer {
+        self.send(&encode::rest(customer, number, price))
+    }
+
     pub fn customers(&self) -> usize {
         self.words[0] as usize
     }
