@@ -98,14 +98,14 @@ pub fn first_refusal(words: &[u32], e: Event) -> u32
             }
             if_met(8, !sound_desk_at(words, k))
         }
-        Event::Rest(k, x) => {
+        Event::Rest(k, r) => {
             if h.customers <= k {
                 return 4;
             }
-            if x.number == 0 {
+            if r.number == 0 {
                 return 5;
             }
-            if !Ladder::legal(x.price) {
+            if !Ladder::legal(r.price) {
                 return 6;
             }
             if_met(8, !sound_desk_at(words, k))
