@@ -43,7 +43,7 @@ extern "C" {
  * no byte, answer or word differs. guvontsira_version gives the library's; a
  * program stops where the two differ.
  */
-#define GUVONTSIRA_VERSION 10000 /* 1.0.0 */
+#define GUVONTSIRA_VERSION 20000 /* 2.0.0 */
 
 #define GUVONTSIRA_MAX_CUSTOMERS 256
 #define GUVONTSIRA_MAX_SECURITIES 1024
@@ -64,7 +64,8 @@ enum guvontsira_kind {
     GUVONTSIRA_KIND_PRICES = 4,
     GUVONTSIRA_KIND_ORDER = 5,
     GUVONTSIRA_KIND_CANCEL = 6,
-    GUVONTSIRA_KIND_MATCH = 7
+    GUVONTSIRA_KIND_MATCH = 7,
+    GUVONTSIRA_KIND_REST = 8
 };
 
 #define GUVONTSIRA_CLOCK_LENGTH 5
@@ -74,6 +75,7 @@ enum guvontsira_kind {
 #define GUVONTSIRA_ORDER_LENGTH 21
 #define GUVONTSIRA_CANCEL_LENGTH 7
 #define GUVONTSIRA_MATCH_LENGTH 11
+#define GUVONTSIRA_REST_LENGTH 11
 #define GUVONTSIRA_MAX_LENGTH 21 /* of the longest kind */
 
 /*
@@ -116,7 +118,11 @@ enum guvontsira_event_byte {
     /* 7 match */
     GUVONTSIRA_MATCH_CUSTOMER_BYTE = 1,    /* 2: from 0 */
     GUVONTSIRA_MATCH_NUMBER_BYTE = 3,      /* 4: not 0 */
-    GUVONTSIRA_MATCH_VOLUME_BYTE = 7       /* 4 */
+    GUVONTSIRA_MATCH_VOLUME_BYTE = 7,      /* 4 */
+    /* 8 rest */
+    GUVONTSIRA_REST_CUSTOMER_BYTE = 1,     /* 2: from 0 */
+    GUVONTSIRA_REST_NUMBER_BYTE = 3,       /* 4: not 0 */
+    GUVONTSIRA_REST_PRICE_BYTE = 7         /* 4: on the ladder */
 };
 
 /* Codes, the same in events and in words. */
@@ -142,7 +148,7 @@ enum guvontsira_type {
     GUVONTSIRA_TYPE_LIMIT = 0,
     GUVONTSIRA_TYPE_ATO = 1,
     GUVONTSIRA_TYPE_ATC = 2,
-    GUVONTSIRA_TYPE_MP = 3 /* market price; never in a row */
+    GUVONTSIRA_TYPE_MP = 3 /* market price; in a row, until a rest makes it a limit */
 };
 
 enum guvontsira_channel {
@@ -243,7 +249,7 @@ enum guvontsira_row_word {
  * rules with their edges.
  */
 enum guvontsira_answer {
-    /* A market event, a cancel or a match was carried out. */
+    /* A market event, a cancel, a match or a rest was carried out. */
     GUVONTSIRA_OK = 0,
     GUVONTSIRA_REFUSED_STATE = 1,         /* the lent words are no state's */
     GUVONTSIRA_REFUSED_LENGTH = 2,        /* no bytes, or not the kind's length */
@@ -254,7 +260,7 @@ enum guvontsira_answer {
     GUVONTSIRA_REFUSED_CLOCK = 7,         /* earlier than the state's clock */
     GUVONTSIRA_REFUSED_RECORD = 8,        /* a record of the state is damaged */
     GUVONTSIRA_REFUSED_NUMBER_TAKEN = 9,  /* order number in use */
-    GUVONTSIRA_REFUSED_NO_OPEN_ROW = 10,  /* nothing to cancel or match */
+    GUVONTSIRA_REFUSED_NO_OPEN_ROW = 10,  /* nothing to cancel or match; for rest, no MP row */
     GUVONTSIRA_REFUSED_MATCH_VOLUME = 11, /* 0 or more than is open */
     GUVONTSIRA_REFUSED_DESK_FULL = 12,    /* 32 rows in use */
     /* No rule applies: the order may go out. */
@@ -282,7 +288,8 @@ enum guvontsira_answer {
     /* Volume 0, above GUVONTSIRA_MAX_VOLUME or no multiple of the lot; or a
        limit of more than 500 million baht. */
     GUVONTSIRA_REJECT_V = 222,
-    /* It could match an open order of the customer's own: online. */
+    /* It could match an open order of the customer's own: online. No order meets
+       an MP row, until a rest makes it a limit. */
     GUVONTSIRA_REJECT_W = 223
 };
 
@@ -435,6 +442,20 @@ static inline size_t guvontsira_match_event(uint8_t *out, uint16_t customer, uin
     guvontsira_put_4(out + GUVONTSIRA_MATCH_NUMBER_BYTE, number);
     guvontsira_put_4(out + GUVONTSIRA_MATCH_VOLUME_BYTE, volume);
     return GUVONTSIRA_MATCH_LENGTH;
+}
+
+/*
+ * What is left of an MP order stands in the book as a limit, one step past the
+ * last match: the open MP row with the number becomes a limit at the price.
+ */
+static inline size_t guvontsira_rest_event(uint8_t *out, uint16_t customer, uint32_t number,
+                                           uint32_t price)
+{
+    out[0] = GUVONTSIRA_KIND_REST;
+    guvontsira_put_2(out + GUVONTSIRA_REST_CUSTOMER_BYTE, customer);
+    guvontsira_put_4(out + GUVONTSIRA_REST_NUMBER_BYTE, number);
+    guvontsira_put_4(out + GUVONTSIRA_REST_PRICE_BYTE, price);
+    return GUVONTSIRA_REST_LENGTH;
 }
 
 /*

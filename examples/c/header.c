@@ -2,7 +2,7 @@
  * Holds the numbers of guvontsira.h to the library: events are built by the
  * header's places and codes, and again by its builders; words are read by its
  * places, and each answer is compared with its name. What agrees is listed with
- * its number; those in header.expected are the numbers of paper 01.
+ * its number; those in header.expected are the numbers of papers 01 and 02.
  *
  *     cc -std=c11 -Wall -Wextra -Werror -I include examples/c/header.c \
  *        target/staticlib/libguvontsira.a -o target/header && target/header
@@ -170,6 +170,16 @@ static uint32_t match(uint16_t customer, uint32_t number, uint32_t volume)
                         guvontsira_match_event(built, customer, number, volume));
 }
 
+static uint32_t rest(uint16_t customer, uint32_t number, uint32_t price)
+{
+    uint8_t event[GUVONTSIRA_REST_LENGTH] = {GUVONTSIRA_KIND_REST};
+    put(event + GUVONTSIRA_REST_CUSTOMER_BYTE, customer, 2);
+    put(event + GUVONTSIRA_REST_NUMBER_BYTE, number, 4);
+    put(event + GUVONTSIRA_REST_PRICE_BYTE, price, 4);
+    return hand_in_both(event, sizeof event,
+                        guvontsira_rest_event(built, customer, number, price));
+}
+
 static void make(void)
 {
     memset(words, 0xff, sizeof words);
@@ -218,7 +228,7 @@ struct kind {
     {"KIND_" #name, #name "_LENGTH", GUVONTSIRA_KIND_##name, GUVONTSIRA_##name##_LENGTH}
 
 static const struct kind kinds[] = {KIND(CLOCK), KIND(SESSION), KIND(SETUP), KIND(PRICES),
-                                    KIND(ORDER), KIND(CANCEL),  KIND(MATCH)};
+                                    KIND(ORDER), KIND(CANCEL),  KIND(MATCH), KIND(REST)};
 
 /* Events of each kind, otherwise zero: one byte more and one fewer is refused. */
 static void lengths(void)
@@ -353,6 +363,7 @@ static void types(void)
     /* There is an offer and no bid. */
     MEANS(SESSION_OPEN, GUVONTSIRA_OK, session(GUVONTSIRA_SESSION_OPEN));
     MEANS(SIDE_BUY, GUVONTSIRA_ACCEPT, order(buy));
+    buy.number++;
     buy.side = GUVONTSIRA_SIDE_SELL;
     ANSWERS(REJECT_S, order(buy));
     MEANS(SIDE_SELL, GUVONTSIRA_REJECT_S, order(buy));
@@ -413,6 +424,75 @@ static void rows(void)
     ANSWERS(REFUSED_RECORD, cancel(customer, 70001));
     words[GUVONTSIRA_HEADER_SESSION_WORD] = GUVONTSIRA_SESSION_PRE_CLOSE + 1;
     ANSWERS(REFUSED_STATE, cancel(customer, 70001));
+}
+
+/* An MP order's row, and what a rest, a cancel and another session make of it. */
+static void rests(void)
+{
+    const uint16_t customer = 1;
+    const size_t first = GUVONTSIRA_ROW_START(SECURITIES, customer, 0);
+    const size_t fourth = GUVONTSIRA_ROW_START(SECURITIES, customer, 3);
+    struct order buy = {customer, 70001, 3, GUVONTSIRA_BOARD_FOREIGN, GUVONTSIRA_SIDE_BUY,
+                        GUVONTSIRA_TYPE_MP, GUVONTSIRA_CHANNEL_DMA, 0, 300};
+    struct order sell = {customer, 70002, 3, GUVONTSIRA_BOARD_FOREIGN, GUVONTSIRA_SIDE_SELL,
+                         GUVONTSIRA_TYPE_LIMIT, GUVONTSIRA_CHANNEL_ONLINE, 5050, 100};
+
+    make();
+    clock_event(NOON);
+    session(GUVONTSIRA_SESSION_OPEN);
+    prices((struct prices){.security = 3, .board = GUVONTSIRA_BOARD_FOREIGN, .offer = 5025});
+    ANSWERS(ACCEPT, order(buy));
+    STANDS(ROW_MARK_WORD, first, GUVONTSIRA_MARK_OPEN);
+    STANDS(ROW_TYPE_WORD, first, GUVONTSIRA_TYPE_MP);
+    MEANS(TYPE_MP, GUVONTSIRA_TYPE_MP, words[first + GUVONTSIRA_ROW_TYPE_WORD]);
+    STANDS(ROW_PRICE_WORD, first, 0);
+    ANSWERS(REFUSED_NUMBER_TAKEN, order(buy));
+    ANSWERS(OK, match(customer, 70001, 100));
+    ANSWERS(REFUSED_NAME, rest(CUSTOMERS, 70001, 5050));
+    ANSWERS(REFUSED_CODE, rest(customer, 0, 5050));
+    ANSWERS(REFUSED_PRICE, rest(customer, 70001, 5051));
+    ANSWERS(REFUSED_PRICE, rest(customer, 70001, 0));
+    ANSWERS(REFUSED_NO_OPEN_ROW, rest(customer, 70002, 5050));
+    /* No order meets the row before it is a limit. */
+    ANSWERS(ACCEPT, order(sell));
+    ANSWERS(REFUSED_NO_OPEN_ROW, rest(customer, 70002, 5050));
+    ANSWERS(OK, rest(customer, 70001, 5050));
+    STANDS(ROW_MARK_WORD, first, GUVONTSIRA_MARK_OPEN);
+    STANDS(ROW_NUMBER_WORD, first, 70001);
+    STANDS(ROW_SECURITY_WORD, first, 3);
+    STANDS(ROW_BOARD_WORD, first, GUVONTSIRA_BOARD_FOREIGN);
+    STANDS(ROW_SIDE_WORD, first, GUVONTSIRA_SIDE_BUY);
+    STANDS(ROW_TYPE_WORD, first, GUVONTSIRA_TYPE_LIMIT);
+    STANDS(ROW_PRICE_WORD, first, 5050);
+    STANDS(ROW_VOLUME_WORD, first, 200);
+    STANDS(ROW_CANCEL_TIME_WORD, first, 0);
+    ANSWERS(REFUSED_NO_OPEN_ROW, rest(customer, 70001, 5050));
+    sell.number++;
+    ANSWERS(REJECT_W, order(sell));
+    sell.price = 5075;
+    ANSWERS(ACCEPT, order(sell));
+
+    /* As with ATO, no cancel is kept: the number is free at once. */
+    buy.number = 70004;
+    ANSWERS(ACCEPT, order(buy));
+    STANDS(ROW_TYPE_WORD, fourth, GUVONTSIRA_TYPE_MP);
+    ANSWERS(OK, cancel(customer, 70004));
+    STANDS(ROW_MARK_WORD, fourth, GUVONTSIRA_MARK_FREE);
+    ANSWERS(ACCEPT, order(buy));
+    STANDS(ROW_MARK_WORD, fourth, GUVONTSIRA_MARK_OPEN);
+    session(GUVONTSIRA_SESSION_BREAK);
+    STANDS(ROW_MARK_WORD, fourth, GUVONTSIRA_MARK_FREE);
+    ANSWERS(REFUSED_NO_OPEN_ROW, rest(customer, 70004, 5050));
+
+    /* An MP row is sound with price 0 only, and open. */
+    words[first + GUVONTSIRA_ROW_TYPE_WORD] = GUVONTSIRA_TYPE_MP;
+    ANSWERS(REFUSED_RECORD, rest(customer, 70001, 5050));
+    words[first + GUVONTSIRA_ROW_PRICE_WORD] = 0;
+    words[first + GUVONTSIRA_ROW_MARK_WORD] = GUVONTSIRA_MARK_CANCELLED;
+    ANSWERS(REFUSED_RECORD, rest(customer, 70001, 5050));
+    words[first + GUVONTSIRA_ROW_MARK_WORD] = GUVONTSIRA_MARK_OPEN;
+    ANSWERS(OK, rest(customer, 70001, 5050));
+    STANDS(ROW_PRICE_WORD, first, 5050);
 }
 
 /* The channels differ by warn 10, which skips the front office, and W, online only. */
@@ -485,6 +565,15 @@ static void full_desk(void)
     STANDS(ROW_NUMBER_WORD, GUVONTSIRA_ROW_START(SECURITIES, customer, GUVONTSIRA_DESK_ROWS - 1),
            GUVONTSIRA_DESK_ROWS);
     STANDS(DESK_ACCEPTED_WORD, GUVONTSIRA_DESK_START(SECURITIES, customer), GUVONTSIRA_DESK_ROWS);
+    /* An MP order takes a row as others do. */
+    prices((struct prices){.offer = 5025});
+    buy.type = GUVONTSIRA_TYPE_MP;
+    buy.price = 0;
+    ANSWERS(REFUSED_DESK_FULL, order(buy));
+    ANSWERS(OK, match(customer, 1, 100));
+    ANSWERS(ACCEPT, order(buy));
+    STANDS(ROW_TYPE_WORD, GUVONTSIRA_ROW_START(SECURITIES, customer, GUVONTSIRA_DESK_ROWS - 1),
+           GUVONTSIRA_TYPE_MP);
 }
 
 /* Every number that has words; those of the day program's listing. */
@@ -504,30 +593,33 @@ static uint8_t stack[4 * GUVONTSIRA_STACK_BYTES];
 static const uint8_t *caller;
 static uint32_t far_answer;
 
-static size_t deep_order(uint8_t *event, uint16_t customer, uint32_t number, uint32_t price)
+static size_t deep_order(uint8_t *event, uint16_t customer, uint32_t number,
+                         enum guvontsira_type type, uint32_t price)
 {
     return guvontsira_order_event(event, customer, number, 0, GUVONTSIRA_BOARD_MAIN,
-                                  GUVONTSIRA_SIDE_BUY, GUVONTSIRA_TYPE_LIMIT,
-                                  GUVONTSIRA_CHANNEL_ONLINE, price, 100);
+                                  GUVONTSIRA_SIDE_BUY, type, GUVONTSIRA_CHANNEL_ONLINE, price,
+                                  100);
 }
 
 static void deepest(void)
 {
     const uint16_t customer = CUSTOMERS - 1;
-    uint8_t events[7 * GUVONTSIRA_MAX_LENGTH];
-    size_t lengths[7];
-    uint32_t answers[7];
+    uint8_t events[9 * GUVONTSIRA_MAX_LENGTH];
+    size_t lengths[9];
+    uint32_t answers[9];
     size_t end = 0;
     caller = events;
     end += lengths[0] = guvontsira_session_event(events, GUVONTSIRA_SESSION_PRE_OPEN);
     end += lengths[1] = guvontsira_prices_event(events + end, 0, GUVONTSIRA_BOARD_MAIN, 5000, 0, 0,
-                                                0);
+                                                5025);
     /* Warn 10 goes deepest: it has the table of legal prices on the stack. */
-    end += lengths[2] = deep_order(events + end, customer, 1, 4725);
+    end += lengths[2] = deep_order(events + end, customer, 1, GUVONTSIRA_TYPE_LIMIT, 4725);
     end += lengths[3] = guvontsira_session_event(events + end, GUVONTSIRA_SESSION_OPEN);
-    end += lengths[4] = deep_order(events + end, customer, 2, 5000);
+    end += lengths[4] = deep_order(events + end, customer, 2, GUVONTSIRA_TYPE_LIMIT, 5000);
     end += lengths[5] = guvontsira_match_event(events + end, customer, 1, 50);
     end += lengths[6] = guvontsira_cancel_event(events + end, customer, 1);
+    end += lengths[7] = deep_order(events + end, customer, 3, GUVONTSIRA_TYPE_MP, 0);
+    end += lengths[8] = guvontsira_rest_event(events + end, customer, 3, 5050);
     guvontsira_run_list(words, COUNT(words), events, end, lengths, COUNT(lengths), answers,
                         COUNT(answers));
     far_answer = answers[2];
@@ -555,6 +647,8 @@ static void depth(void)
     same("warn 10 on that stack", 1, GUVONTSIRA_WARN_10, far_answer);
     same("matched and cancelled on that stack", 1, GUVONTSIRA_MARK_CANCELLED,
          words[GUVONTSIRA_ROW_START(SECURITIES, CUSTOMERS - 1, 0) + GUVONTSIRA_ROW_MARK_WORD]);
+    same("rest on that stack", 1, 5050,
+         words[GUVONTSIRA_ROW_START(SECURITIES, CUSTOMERS - 1, 2) + GUVONTSIRA_ROW_PRICE_WORD]);
 }
 
 int main(void)
@@ -567,6 +661,7 @@ int main(void)
     market();
     types();
     rows();
+    rests();
     verdicts();
     full_desk();
     texts();

@@ -31,6 +31,7 @@ static size_t length_of(uint8_t kind)
     case GUVONTSIRA_KIND_ORDER: return GUVONTSIRA_ORDER_LENGTH;
     case GUVONTSIRA_KIND_CANCEL: return GUVONTSIRA_CANCEL_LENGTH;
     case GUVONTSIRA_KIND_MATCH: return GUVONTSIRA_MATCH_LENGTH;
+    case GUVONTSIRA_KIND_REST: return GUVONTSIRA_REST_LENGTH;
     default: return 0;
     }
 }

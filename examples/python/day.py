@@ -1,4 +1,4 @@
-"""Hands the paper's example events to the gate by ctypes, lists the answers and reads a customer's desk.
+"""Hands the paper's example events, and some of every other kind, to the gate by ctypes, lists the answers and reads a customer's desk.
 
 The archive as a shared object, from the project's root; then this program:
 
@@ -11,9 +11,9 @@ import pathlib
 import struct
 import sys
 
-VERSION = 10000  # GUVONTSIRA_VERSION of include/guvontsira.h, whose numbers stand here too
+VERSION = 20000  # GUVONTSIRA_VERSION of include/guvontsira.h, whose numbers stand here too
 
-CLOCK, SESSION, SETUP, PRICES, ORDER, CANCEL, MATCH = range(1, 8)
+CLOCK, SESSION, SETUP, PRICES, ORDER, CANCEL, MATCH, REST = range(1, 9)
 CLOSED, PRE_OPEN, OPEN, BREAK, PRE_CLOSE = range(5)
 MAIN, FOREIGN = range(2)
 BUY, SELL = range(2)
@@ -30,6 +30,7 @@ FORMATS = {
     ORDER: "<BHIHBBBBII",
     CANCEL: "<BHI",
     MATCH: "<BHII",
+    REST: "<BHII",
 }
 
 HEADER_WORDS, SECURITY_WORDS, DESK_WORDS, ROW_WORDS, DESK_ROWS = 4, 13, 291, 9, 32
@@ -98,6 +99,11 @@ DAY = [
     (MATCH, 0, 3, 50),
     (CANCEL, 0, 3),
     (ORDER, 0, 4, 1, FOREIGN, SELL, LIMIT, DMA, 2460, 200),
+    # A market-price order, matched in part at 50.25; what is left stands in the book a step past that.
+    (ORDER, 0, 5, 0, MAIN, BUY, MP, ONLINE, 0, 300),
+    (MATCH, 0, 5, 100),
+    (REST, 0, 5, 5050),
+    (ORDER, 0, 6, 0, MAIN, SELL, LIMIT, ONLINE, 5050, 100),
 ]
 
 

@@ -12,6 +12,7 @@ use definitions::codes::LAST_TIME;
 use definitions::codes::MP;
 use definitions::codes::PRE_CLOSE;
 use definitions::codes::SELL;
+use ladder::Ladder;
 use securities::sound_prices;
 use securities::sound_prior;
 use securities::sound_terms;
@@ -94,6 +95,18 @@ pub fn first_refusal(words: &[u32], e: Event) -> u32
             }
             if m.number == 0 {
                 return 5;
+            }
+            if_met(8, !sound_desk_at(words, k))
+        }
+        Event::Rest(k, x) => {
+            if h.customers <= k {
+                return 4;
+            }
+            if x.number == 0 {
+                return 5;
+            }
+            if !Ladder::legal(x.price) {
+                return 6;
             }
             if_met(8, !sound_desk_at(words, k))
         }

@@ -1,4 +1,4 @@
--- Events written as bytes, little-endian, as paper 01's table of kinds has them.
+-- Events written as bytes, little-endian, as paper 01's table of kinds and paper 02 have them.
 use mathlib.Core.List.{List, [], _∷_, _++_}
 use Prim.Native.Nat.{ℕ, _/_, _%_}
 
@@ -30,3 +30,6 @@ cancel customer number = 6 ∷ (two customer ++ four number)
 
 abbrev pub match : ℕ → ℕ → ℕ → List ℕ
 match customer number volume = 7 ∷ (two customer ++ (four number ++ four volume))
+
+abbrev pub rest : ℕ → ℕ → ℕ → List ℕ
+rest customer number price = 8 ∷ (two customer ++ (four number ++ four price))

@@ -1,4 +1,4 @@
--- Paper 01, "Along each edge": the cases marked to be proved, as entries of one table, and one theorem over the whole.
+-- Paper 01, "Along each edge": the cases marked to be proved, as entries of one table, and one theorem over the whole; and the edges of paper 02's requests.
 use mathlib.Core.List.{List, [], _∷_, _++_, map}
 use mathlib.Core.Path.{_≡_, refl}
 use Prim.Native.Nat.{ℕ, _+_}
@@ -9,7 +9,7 @@ use Rattle.definitions.specs.declared.Answer.the-variants as answer
 use Rattle.definitions.specs.declared.Answer.{Answer}
 use Rattle.definitions.specs.declared.Verdict.{Verdict}
 use Rattle.definitions.specs.declared.Verdict.the-variants.{RejectV, RejectQ, RejectW, RejectP, Warn30, Warn10, Accept}
-use Rattle.definitions.proofs.Bytes.{clock, session, setup, prices, order, cancel}
+use Rattle.definitions.proofs.Bytes.{clock, session, setup, prices, order, cancel, rest}
 use Rattle.definitions.proofs.Run.{answersOf, lastOf}
 
 -- what a case asks: the position of a price, or the answer to the last event of a history of one customer and one security
@@ -69,6 +69,10 @@ cancelledAgo volume ago = clock 36_000_000 ∷ session 2 ∷ onlineBuy 1 5000 vo
 abbrev pub openSession : List (List ℕ)
 openSession = session 2 ∷ []
 
+-- session 2 with an offer of 50.25, and an MP buy of 100,000
+abbrev pub atMarket : List (List ℕ)
+atMarket = session 2 ∷ prices 0 0 0 0 0 5025 ∷ order 0 1 0 0 0 3 0 0 100_000 ∷ []
+
 abbrev pub cases : List Case
 cases =
     -- "Positions: 1.99 is 199, 2.00 is 200, 400.00 is 1300."
@@ -103,6 +107,14 @@ cases =
     -- "10,000,000 at 50.00 passes V; 10,000,100 not."
     ∷ judged openSession (office 1 5000 10_000_000) Accept
     ∷ judged openSession (office 1 5000 10_000_100) RejectV
+    -- paper 02, 1: "W compares with such a row only once it is a limit": a rest at 50.00
+    ∷ judged atMarket (onlineSell 2 4975 100) Accept
+    ∷ judged (atMarket ++ (rest 0 1 5000 ∷ [])) (onlineSell 2 5000 100) RejectW
+    ∷ judged (atMarket ++ (rest 0 1 5000 ∷ [])) (onlineSell 2 5025 100) Accept
+    -- it is cancelled as a limit, and seen by P inside the minute; "Cancel .. treat[s] type 3 as ATO": no cancel is kept
+    ∷ judged (atMarket ++ (rest 0 1 5000 ∷ cancel 0 1 ∷ clock 60_000 ∷ [])) (onlineBuy 2 5000 60_000) RejectP
+    ∷ judged (atMarket ++ (rest 0 1 5000 ∷ cancel 0 1 ∷ clock 60_001 ∷ [])) (onlineBuy 2 5000 60_000) Accept
+    ∷ judged (atMarket ++ (cancel 0 1 ∷ [])) (onlineBuy 1 5000 60_000) Accept
     ∷ []
 
 pub all-right : map (λ (c : Case). find (c .asked)) cases ≡ map (λ (c : Case). c .right) cases

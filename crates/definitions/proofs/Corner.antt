@@ -1,9 +1,7 @@
 -- A corner: an event over given words, with the right answer and the right words after it, written as what changes in them. Places, sizes and codes stand
--- here once more, as numbers of paper 01's "The lent state" and "Events", so that a wrong one in specs/ is refused.
-use mathlib.Core.Bool.{cond}
+-- here once more, as numbers of paper 01's "The lent state" and "Events" and of paper 02, so that a wrong one in specs/ is refused.
 use mathlib.Core.List.{List, [], _∷_, _++_}
 use Prim.Native.Nat.{ℕ, suc, _+_, _-_, _*_}
-use lib.Dec.{eqb}
 use lib.ListN.{length, replicate, set}
 use Rattle.definitions.specs.declared.Answer.{Answer}
 use Rattle.definitions.specs.declared.Answer.the-variants as answer
@@ -162,12 +160,12 @@ opened e = rowOf 1 0 e
 abbrev pub cancelled : ℕ → Entry → List ℕ
 cancelled time e = rowOf 2 time e
 
--- what an order changes: its verdict's counter, and with accept and warn the row after those that are there; "MP .., without a row"
+-- what an order changes: its verdict's counter, and with accept and warn the row after those that are there
 abbrev pub rejects : ℕ → Changes
 rejects desk = (desk + 2, 31 ∷ []) ∷ []
 
 abbrev pub takes : ℕ × ℕ → ℕ → Entry → Changes
-takes counter place e = (counter .0, counter .1 ∷ []) ∷ cond (eqb (e .«order_type») mp) [] ((place, opened e) ∷ [])
+takes counter place e = (counter .0, counter .1 ∷ []) ∷ (place, opened e) ∷ []
 
 abbrev pub follows : ℕ → ℕ → Entry → Verdict → Changes
 follows desk row e RejectS = rejects desk

@@ -84,7 +84,7 @@ corners =
     ∷ refused bare (6 ∷ []) 2
     ∷ refused bare (7 ∷ []) 2
     ∷ refused bare (0 ∷ []) 3
-    ∷ refused bare (8 ∷ 1 ∷ []) 3
+    ∷ refused bare (9 ∷ 1 ∷ []) 3
     -- 4: customer or security at least C or S, also by the high byte; and before 5
     ∷ refused bare (buys 1 1) 4
     ∷ refused bare (buys 256 1) 4
@@ -161,12 +161,12 @@ corners =
     ∷ refused held (match 0 1 0) 11
     ∷ refused held (match 0 1 101) 11
     ∷ done held (match 0 1 100) ((rowAt 1 0 0, replicate 9 0) ∷ [])
-    -- 12: accept and warn; after 9, not for MP, nor for an order that is rejected; a row cancelled in the minute counts
+    -- 12: accept and warn; after 9, and not for an order that is rejected; a row cancelled in the minute counts
     ∷ refused (full 5_000 (opened (bought 32))) (buys 0 1) 9
     ∷ refused (full 5_000 (opened (bought 32))) (order 0 33 0 main buy limit online 1000 100) 12
     ∷ refused (full 5_000 (opened (bought 32))) (buys 0 33) 12
     ∷ refused (written (full 5_000 (opened (bought 32))) sessionAt (1 ∷ [])) (order 0 33 0 main buy ato online 0 100) 12
-    ∷ verdict (full 5_000 (opened (bought 32))) (order 0 33 0 main buy mp online 0 100) Accept ((deskAt 1 0, 11 ∷ []) ∷ [])
+    ∷ refused (full 5_000 (opened (bought 32))) (order 0 33 0 main buy mp online 0 100) 12
     ∷ verdict (full 5_000 (opened (bought 32))) (order 0 33 0 main buy ato online 0 100) RejectS ((deskAt 1 0 + 2, 31 ∷ []) ∷ [])
     ∷ verdict (full 5_000 (opened (bought 32))) (order 0 33 0 main buy limit online 5000 150) RejectV ((deskAt 1 0 + 2, 31 ∷ []) ∷ [])
     ∷ refused (full 65_000 (cancelled 5_000 (bought 32))) (order 0 33 0 main buy limit online 1000 100) 12

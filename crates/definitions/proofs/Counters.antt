@@ -53,7 +53,7 @@ countsAnswer c (answer.Refused n) = false
 abbrev pub upToMax : ℕ → ℕ
 upToMax n = cond (ltb n maxCount) n maxCount
 
--- "Kinds 5 to 7 belong to the customer they name"
+-- "Kinds 5 to 7 belong to the customer they name", and kind 8
 abbrev pub isOwner : ℕ → Owner → Bool
 isOwner k market = false
 isOwner k (customer j) = eqb j k
@@ -118,9 +118,10 @@ module _ (c : Counter) (l : Lone) where
       let v = loneVerdict l x in
       counted-raises v _ c
       ∙ ap (raised (countsVerdict c (verdictNumber v)))
-      (either (λ (d : Desk). counterIn c d ≡ counterIn c (l .desk)) (takesRow v x) _ _ (λ _. counter-with-rows c _ (l .desk)) (λ _. refl))
+      (either (λ (d : Desk). counterIn c d ≡ counterIn c (l .desk)) (takesRow v) _ _ (λ _. counter-with-rows c _ (l .desk)) (λ _. refl))
   counts-performed (event.Cancel k x) = counter-changed c _ (l .desk)
   counts-performed (event.Match k x) = counter-changed c _ (l .desk)
+  counts-performed (event.Rest k x) = counter-changed c _ (l .desk)
 
   counts-outcome : (b : List ℕ) → Counts (loneOutcome l b)
   unfolding loneOutcome
@@ -147,6 +148,7 @@ module _ (c : Counter) (customers k : ℕ) (w : List ℕ) where
   own-counted (event.Order j x) fed = rw (own j fed)
   own-counted (event.Cancel j x) fed = rw (own j fed)
   own-counted (event.Match j x) fed = rw (own j fed)
+  own-counted (event.Rest j x) fed = rw (own j fed)
 
   fed-counted : (b : List ℕ) → isFed customers k b ≡ true → belongsTo customers k b && countsAnswer c (eventAnswer w b) ≡ countsAnswer c (eventAnswer w b)
   unfolding isFed belongsTo ownerOf outcome

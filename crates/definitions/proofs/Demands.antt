@@ -1,8 +1,8 @@
 -- The three demands of paper 00 as theorems over the definitions of paper 01. Read this file first: each theorem stands under the sentence that it
 -- proves. The definitions that it names are in crates/definitions/specs, but for those that stand beside their laws: `FoundFirst` in Refused.antt, `Good`,
 -- a well-formed state, in WellFormed.antt, `AppliesFirst` in Verdicts.antt, `Belongs` in Ownership.antt, what a counter counts in Counters.antt, what a
--- session change leaves in SessionChange.antt, `StandsIn` in Standing.antt, a row as a cancel marks it in Minute.antt, and the session of an ATO or ATC row
--- in AuctionRows.antt. That the code does what `outcome` says is the contract of `gate::handle`.
+-- session change leaves in SessionChange.antt, `StandsIn` in Standing.antt, a row as a cancel marks it in Minute.antt, and the session of an ATO, ATC or MP row
+-- in SessionRows.antt. That the code does what `outcome` says is the contract of `gate::handle`.
 -- Assumes nothing.
 use mathlib.Core.Bool.{Bool, true, not, false}
 use mathlib.Core.List.{List}
@@ -12,13 +12,14 @@ use Prim.Native.Nat.{ℕ, _+_, _≤_, _<_}
 use Rattle.definitions.specs.declared.Row.{Row}
 use Rattle.definitions.specs.declared.Order.{Order}
 use Rattle.definitions.specs.declared.Cancel.{Cancel}
+use Rattle.definitions.specs.declared.Rest.{Rest}
 use Rattle.definitions.specs.declared.Counter.{Counter}
 use Rattle.definitions.specs.declared.Event.{Event}
 use Rattle.definitions.specs.declared.Event.the-variants as event
 use Rattle.definitions.specs.declared.Verdict.{Verdict}
 use Rattle.definitions.specs.declared.Answer.{Answer}
 use Rattle.definitions.specs.declared.Answer.the-variants as answer
-use Rattle.definitions.specs.Codes.{openMark, cancelledMark, limit}
+use Rattle.definitions.specs.Codes.{openMark, cancelledMark, limit, mp}
 use Rattle.definitions.specs.Lists.{all, keep, count}
 use Rattle.definitions.specs.State.{headerOf, sizesFit, fresh, deskAt, putDesk, deskWords, stateFits}
 use Rattle.definitions.specs.Gate.{answerOf, wordsOf, recordsSound, conditions, viewAt, verdictAt, orderedAt, perform, outcome, eventAnswer, eventWords, wordsAfter, answersTo}
@@ -38,10 +39,17 @@ use Rattle.definitions.proofs.Counters.{counterIn, countsAnswer, upToMa
 use Rattle.definitions.proofs.SessionChange as sessions
 use Rattle.definitions.proofs.SessionChange.{SessionChanged}
 use Rattle.definitions.proofs.Minute as minute
-use Rattle.definitions.proofs.Standing.{StandsIn}
+use Rattle.definitions.proofs.Standing.{StandsIn, stands-all}
 use Rattle.definitions.proofs.Minute.{cancelledAt}
-use Rattle.definitions.proofs.AuctionRows as auctionRows
-use Rattle.definitions.proofs.AuctionRows.{InItsSession}
+use Rattle.definitions.proofs.SessionRows as sessionRows
+use Rattle.definitions.proofs.SessionRows.{InItsSession}
+use Rattle.definitions.proofs.RestRows as restRows
+use Rattle.definitions.proofs.RestRows.{RestLimited, withoutMpRows}
+use Rattle.definitions.proofs.SoundRow as soundRow
+use Rattle.definitions.proofs.SoundRow.{MpRow}
+use Rattle.definitions.proofs.SoundDesk.{desk-true}
+use Rattle.definitions.specs.Sound.{soundRow as soundRowTest}
+use Rattle.definitions.specs.Rules.{View, ruleW}
 use Rattle.definitions.specs.Events.{eventIn}
 use Rattle.definitions.specs.Refusals.{badName}
 
@@ -131,8 +139,8 @@ module _ (customers securities : ℕ) (fit : sizesFit customers securities ≡ t
   counters k below history c =
       counts-fresh c k below (fresh customers securities) (fresh-good customers securities fit) (fresh-desk customers securities k below) history
 
-  -- "A session that differs from the present one removes all ATO and ATC rows and makes every projected price absent": limit rows and counters stay, and so does
-  -- every other word of a security and of the header
+  -- "A session that differs from the present one removes all ATO and ATC rows and makes every projected price absent", and type 3 goes as ATO does: limit rows
+  -- and counters stay, and so does every other word of a security and of the header
   pub another-session : (history : List (List ℕ)) (b : List ℕ) (s : ℕ) → eventIn b ≡ event.Session s
       → Unrefused (after history) b
       → (s ≡ headerOf (after history) .session → ⊥)
@@ -160,14 +168,32 @@ module _ (customers securities : ℕ) (fit : sizesFit customers securities ≡ t
       → StandsIn r (deskAt (wordsAfter (after history) later) k .rows)
   stays-a-minute k below history r mark = minute.left-in-minute k below r mark (after history) (well-formed history)
 
-  -- "removes all ATO and ATC rows", "ATO outside 1; ATC outside 4": after every history such a row is there only in the session that it was entered in
+  -- "removes all ATO and ATC rows", "ATO outside 1; ATC outside 4; MP outside 2", "session change treat[s] type 3 as ATO": after every history such a row is
+  -- there only in the session that it was entered in
   pub in-its-session : (k : ℕ) → k < customers → (history : List (List ℕ)) (r : Row) → StandsIn r (deskAt (after history) k .rows)
       → InItsSession (headerOf (after history) .session) r
   in-its-session k below =
-      auctionRows.in-its-session k below (fresh customers securities) (fresh-good customers securities fit) (fresh-desk customers securities k below)
+      sessionRows.in-its-session k below (fresh customers securities) (fresh-good customers securities fit) (fresh-desk customers securities k below)
+
+  -- Paper 02, 1: "It makes an open type 3 row a limit at that ladder price": such a row was there, it is made a limit in its place, and no other word changes
+  pub rest-limits : (history : List (List ℕ)) (b : List ℕ) (k : ℕ) (x : Rest) → eventIn b ≡ event.Rest k x
+      → Unrefused (after history) b
+      → RestLimited (after history) (eventWords (after history) b) k x
+  rest-limits history = restRows.rest-limits (after history) (well-formed history)
+
+  -- "of type 3, sound only with price 0": after every history such a row is open, and has no price
+  pub mp-row : (k : ℕ) → k < customers → (history : List (List ℕ)) (r : Row) → StandsIn r (deskAt (after history) k .rows) → r .«order_type» ≡ mp → MpRow r
+  mp-row k below history r there =
+      let clock = headerOf (after history) .clock in
+      let sound = desk-true securities clock (deskAt (after history) k) (well-formed history .desks-sound k below) in
+      soundRow.mp-row securities clock r (stands-all (soundRowTest securities clock) (sound .each) there)
+
+  -- "W compares with such a row only once it is a limit": without its rows of type 3 a desk gives the same W
+  pub w-without-mp-rows : (v : View) (o : Order) → ruleW (withoutMpRows v) o ≡ ruleW v o
+  w-without-mp-rows = restRows.w-without-mp-rows
 
   -- "Kinds 5 to 7 belong to the customer they name; 1 to 4 .. are market events. An event that meets condition 2 or 3 below, or one with a customer of C or
-  -- more, belongs to nobody."
+  -- more, belongs to nobody."; paper 02, 1, of kind 8: "The event belongs to its customer."
   pub belongs : (b : List ℕ) → Belongs customers b
   belongs b = ownership.belongs customers b
 

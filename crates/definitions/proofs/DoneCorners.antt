@@ -116,7 +116,7 @@ corners =
     ∷ done (words 2) (prices 0 foreign 5 6 7 8) ((securityAt 0 + 9, traded 5 6 7 8) ∷ [])
     ∷ done (words 2) (prices 1 foreign 1 2 3 4) ((securityAt 1 + 9, traded 1 2 3 4) ∷ [])
     ∷ done (words 2) (prices 2 main 0 0 0 0) ((securityAt 2 + 5, traded 0 0 0 0) ∷ [])
-    -- "An accepted or warned order (not MP) first removes that customer's rows cancelled more than 60,000 ms ago, then is added last."
+    -- "An accepted or warned order .. first removes that customer's rows cancelled more than 60,000 ms ago, then is added last."; since paper 02, 1, an MP order too
     ∷ verdict (words 2) (bytesOf 0 ordered) Accept ((deskAt 3 0, 11 ∷ []) ∷ rows 0 (withOrder ordered) ∷ [])
     ∷ verdict (words 2) (bytesOf 0 (entry 9 0 main buy limit online 1000 100)) Warn30
     ((deskAt 3 0 + 1, 21 ∷ []) ∷ rows 0 (withOrder (entry 9 0 main buy limit online 1000 100)) ∷ [])
@@ -124,8 +124,8 @@ corners =
     ((deskAt 3 0, 11 ∷ []) ∷ rows 0 (withOrder (entry 5 0 main buy limit online 4900 100)) ∷ [])
     ∷ verdict (words 1) (bytesOf 0 (entry 9 0 main buy ato online 0 100)) Accept ((deskAt 3 0, 11 ∷ []) ∷ rows 0 (withOrder (entry 9 0 main buy ato online 0 100)) ∷ [])
     ∷ verdict (words 2) (bytesOf 1 ordered) Accept ((deskAt 3 1, 11 ∷ []) ∷ (rowAt 3 1 2, opened ordered) ∷ [])
-    -- MP, and a rejected order, leave the rows
-    ∷ verdict (words 2) (bytesOf 0 (entry 9 0 main buy mp online 0 100)) Accept ((deskAt 3 0, 11 ∷ []) ∷ [])
+    ∷ verdict (words 2) (bytesOf 0 (entry 9 0 main buy mp online 0 100)) Accept ((deskAt 3 0, 11 ∷ []) ∷ rows 0 (withOrder (entry 9 0 main buy mp online 0 100)) ∷ [])
+    -- a rejected order leaves the rows
     ∷ verdict (words 2) (bytesOf 0 (entry 9 0 main buy limit online 4900 0)) RejectV ((deskAt 3 0 + 2, 31 ∷ []) ∷ [])
     ∷ verdict (words 2) (bytesOf 0 (entry 9 1 foreign sell limit online 4900 100)) RejectW ((deskAt 3 0 + 2, 31 ∷ []) ∷ [])
     -- "A cancel marks an open limit row cancelled at the present clock, and removes an ATO or ATC row."

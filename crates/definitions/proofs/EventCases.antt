@@ -1,4 +1,4 @@
--- Paper 01, "Events": the fields of each kind in its bytes, to whom an event belongs, and where events end in lent bytes. One theorem over each table.
+-- Paper 01, "Events", and paper 02: the fields of each kind in its bytes, to whom an event belongs, and where events end in lent bytes. One theorem over each table.
 use mathlib.Core.Bool.{Bool, true, false}
 use mathlib.Core.List.{List, [], _∷_, _++_, map}
 use mathlib.Core.Path.{_≡_, refl}
@@ -9,7 +9,7 @@ use Rattle.definitions.specs.declared.Event.the-variants as event
 use Rattle.definitions.specs.Events.{eventIn, Owner, market, customer, nobody, ownerOf}
 use Rattle.definitions.specs.Lone.{isFed}
 use Rattle.definitions.specs.Walk.{taken, split}
-use Rattle.definitions.proofs.Bytes.{clock, session, setup, prices, order, cancel, match}
+use Rattle.definitions.proofs.Bytes.{clock, session, setup, prices, order, cancel, match, rest}
 use Rattle.definitions.proofs.Run.{answersOf}
 use Rattle.definitions.proofs.Corner.{joined}
 
@@ -57,6 +57,7 @@ read =
     )
     ∷ (6 ∷ ascending 6, event.Cancel 513 (record { number = 100_992_003 }))
     ∷ (7 ∷ ascending 10, event.Match 513 (record { number = 100_992_003; volume = 168_364_039 }))
+    ∷ (8 ∷ ascending 10, event.Rest 513 (record { number = 100_992_003; price = 168_364_039 }))
     ∷ []
 
 pub read-right : map (λ (c : List ℕ × Event). eventIn (c .0)) read ≡ map (λ (c : List ℕ × Event). c .1) read
@@ -78,11 +79,16 @@ belongs =
     ∷ (cancel 2 1, nobody)
     ∷ (match 1 1 100, customer 1)
     ∷ (match 2 1 100, nobody)
+    ∷ (rest 0 1 5000, customer 0)
+    ∷ (rest 1 1 5000, customer 1)
+    ∷ (rest 2 1 5000, nobody)
+    ∷ (rest 256 1 5000, nobody)
     -- turned back all the same, but not by condition 2, 3 or its customer
     ∷ (session 5, market)
     ∷ (setup 1_024 10 0 0 0 0, market)
     ∷ (order 1 0 1_024 2 2 4 3 0 0, customer 1)
     ∷ (cancel 0 0, customer 0)
+    ∷ (rest 1 0 0, customer 1)
     -- conditions 2 and 3
     ∷ ([], nobody)
     ∷ (1 ∷ [], nobody)
@@ -90,6 +96,8 @@ belongs =
     ∷ (take 20 (order 0 1 0 0 0 0 1 5000 100), nobody)
     ∷ (0 ∷ [], nobody)
     ∷ (8 ∷ 0 ∷ 0 ∷ [], nobody)
+    ∷ (take 10 (rest 0 1 5000), nobody)
+    ∷ (9 ∷ 0 ∷ 0 ∷ [], nobody)
     ∷ []
 
 pub belongs-right : map (λ (c : List ℕ × Owner). ownerOf 2 (c .0)) belongs ≡ map (λ (c : List ℕ × Owner). c .1) belongs
@@ -110,8 +118,12 @@ fed =
     ∷ (cancel 1 1, (false, true))
     ∷ (match 0 1 0, (true, false))
     ∷ (match 2 1 0, (false, false))
+    ∷ (rest 0 0 0, (true, false))
+    ∷ (rest 1 1 5000, (false, true))
+    ∷ (rest 2 1 5000, (false, false))
     ∷ ([], (false, false))
     ∷ (8 ∷ [], (false, false))
+    ∷ (9 ∷ [], (false, false))
     ∷ []
 
 pub fed-right : map (λ (c : List ℕ × (Bool × Bool)). (isFed 2 0 (c .0), isFed 2 1 (c .0))) fed ≡ map (λ (c : List ℕ × (Bool × Bool)). c .1) fed
@@ -127,18 +139,20 @@ kinds =
     ∷ prices 5 0 0 0 0 0
     ∷ order 6 1 0 0 0 0 1 5000 100
     ∷ cancel 7 1
-    ∷ match 1 1 100
+    ∷ match 8 1 100
+    ∷ rest 1 1 5000
     ∷ []
 
 -- bytes, at most so many events of them, and the events
 abbrev pub walked : List ((ℕ × List ℕ) × List (List ℕ))
 walked =
-    ((7, joined kinds), kinds)
+    ((8, joined kinds), kinds)
     ∷ ((100, joined kinds), kinds)
     ∷ ((2, joined kinds), clock 2 ∷ session 3 ∷ [])
     ∷ ((0, joined kinds), [])
     ∷ ((3, []), [])
     -- an unknown kind, or fewer bytes than the kind's length, takes what is left
+    ∷ ((9, session 2 ++ (9 ∷ session 1)), session 2 ∷ (9 ∷ session 1) ∷ [])
     ∷ ((9, session 2 ++ (8 ∷ session 1)), session 2 ∷ (8 ∷ session 1) ∷ [])
     ∷ ((9, session 2 ++ (0 ∷ session 1)), session 2 ∷ (0 ∷ session 1) ∷ [])
     ∷ ((9, session 2 ++ (1 ∷ session 1)), session 2 ∷ (1 ∷ session 1) ∷ [])

@@ -11,6 +11,7 @@ use lib.ListN.{length}
 use borrow.Author.Tests.{eqb-true, eqb-false, leb-true, lt-ltb}
 use Rattle.definitions.specs.declared.Header.{Header}
 use Rattle.definitions.specs.declared.Security.{Security}
+use Rattle.definitions.specs.declared.Row.{Row}
 use Rattle.definitions.specs.declared.Desk.{Desk}
 use Rattle.definitions.specs.declared.Order.{Order}
 use Rattle.definitions.specs.declared.Event.{Event}
@@ -21,10 +22,10 @@ use Rattle.definitions.specs.Codes.{deskRows}
 use Rattle.definitions.specs.Lists.{each, put, firstMet}
 use Rattle.definitions.specs.State.{headerOf, securityAt, deskAt, putSecurity, putDesk, sessionPlace}
 use Rattle.definitions.specs.Events.{eventIn, bytesConditions, Named, none, one, every, customerNamed, securityNamed, customer, nobody, ownerNamed, ownerOf}
-use Rattle.definitions.specs.Desks.{sessionRow, cancelledRow, matchedRow, changed, ordered}
+use Rattle.definitions.specs.Desks.{sessionRow, cancelledRow, matchedRow, restRow, changed, ordered}
 use Rattle.definitions.specs.Rules.{View, verdictOf}
 use Rattle.definitions.specs.Refusals.{beyond, badName, earlyConditions, laterConditions, eventConditions}
-use Rattle.definitions.specs.Gate.{Outcome, refused, answerOf, wordsOf, numberOf, viewOf, recordsSound, conditions, afterSetup, afterPrices, afterSession, sessionMarket, changeSecurity, changeDesk, perform, refusedOr, outcome, eventWords, withoutProjected}
+use Rattle.definitions.specs.Gate.{Outcome, refused, done, answerOf, wordsOf, numberOf, viewOf, recordsSound, conditions, afterSetup, afterPrices, afterSession, sessionMarket, changeSecurity, changeDesk, perform, refusedOr, outcome, eventWords, withoutProjected}
 use Rattle.definitions.specs.Lone.{Lone, marketWords, loneView, loneConditions, loneDone, loneSession, lonePerform, loneRefusedOr, loneOutcome, fedTo, isFed}
 use Rattle.definitions.proofs.Tests.{or-parts}
 use Rattle.definitions.proofs.Table.{first-append, first-without}
@@ -32,7 +33,7 @@ use Rattle.definitions.proofs.State as state
 use Rattle.definitions.proofs.HeaderWords as words
 use Rattle.definitions.proofs.Passed.{table, Passed, passed, numbered-bytes, none-met-bytes, none-met-event, outcome-read}
 use Rattle.definitions.proofs.SoundDesk as desk
-use Rattle.definitions.proofs.WellFormed.{Good, fits, compared, records-sound, cleared, whole-session, order-names, customer-named, below-securities}
+use Rattle.definitions.proofs.WellFormed.{Good, fits, compared, records-sound, cleared, whole-session, order-names, badCustomer, customer-named, below-securities}
 
 -- what the lone run of k holds of a state
 abbrev pub loneOf : List ℕ → ℕ → Lone
@@ -100,6 +101,8 @@ module _ {customers securities : ℕ} (w : List ℕ) (good : Good customers secu
       ap (λ (v : View). foundBy (headerOf w) [] v (event.Cancel j x)) (view-same (event.Cancel j x) n (fed-customer customers j k fed))
   tests-same (event.Match j x) fed n =
       ap (λ (v : View). foundBy (headerOf w) [] v (event.Match j x)) (view-same (event.Match j x) n (fed-customer customers j k fed))
+  tests-same (event.Rest j x) fed n =
+      ap (λ (v : View). foundBy (headerOf w) [] v (event.Rest j x)) (view-same (event.Rest j x) n (fed-customer customers j k fed))
 
   -- "gets the number found first": the same in both, since condition 8 never arises
   same-refusal : (e : Event) → Fed e → foundBy (headerOf (marketWords w)) [] (metAlone e) e ≡ firstMet (table w e)
@@ -139,6 +142,9 @@ module _ {customers securities : ℕ} (w : List ℕ) (good : Good customers secu
 
   rows-whole : length (deskAt w k .rows) ≡ deskRows
   rows-whole = state.length-desk-rows w (good .sized) k
+
+  put-back-changed : (f : Row → Row) → loneDone answer.Ok (marketWords w) (changed f (deskAt w k)) ≡ shown (done answer.Ok (changeDesk (changed f) k w))
+  put-back-changed f = put-back answer.Ok (changed f (deskAt w k)) (desk.length-changed f (deskAt w k) ∙ rows-whole)
 
   session-same : (s : ℕ) → loneSession (loneOf w k) s ≡ shown (perform w (event.Session s))
   unfolding perform afterSession sessionMarket
@@ -183,11 +189,12 @@ module _ {customers securities : ℕ} (w : List ℕ) (good : Good customers secu
       ∙ ap (λ (i : ℕ). shown (perform w (event.Order i x))) (sym (fed-customer customers j k fed))
   same-perform (event.Cancel j x) fed p =
       ap (λ (h : Header). loneDone answer.Ok (marketWords w) (changed (cancelledRow (x .number) (h .clock)) (deskAt w k))) header-same
-      ∙ put-back _ _ (desk.length-changed (cancelledRow (x .number) (headerOf w .clock)) (deskAt w k) ∙ rows-whole)
+      ∙ put-back-changed (cancelledRow (x .number) (headerOf w .clock))
       ∙ ap (λ (i : ℕ). shown (perform w (event.Cancel i x))) (sym (fed-customer customers j k fed))
   same-perform (event.Match j x) fed p =
-      put-back _ _ (desk.length-changed (matchedRow (x .number) (x .volume)) (deskAt w k) ∙ rows-whole)
-      ∙ ap (λ (i : ℕ). shown (perform w (event.Match i x))) (sym (fed-customer customers j k fed))
+      put-back-changed (matchedRow (x .number) (x .volume)) ∙ ap (λ (i : ℕ). shown (perform w (event.Match i x))) (sym (fed-customer customers j k fed))
+  same-perform (event.Rest j x) fed p =
+      put-back-changed (restRow (x .number) (x .price)) ∙ ap (λ (i : ℕ). shown (perform w (event.Rest i x))) (sym (fed-customer customers j k fed))
 
   -- an event of the market or of k
   pub same-event : (b : List ℕ) → isFed customers k b ≡ true → loneOutcome (loneOf w k) b ≡ shown (outcome w b)
@@ -231,6 +238,12 @@ module _ {customers securities : ℕ} (w : List ℕ) (good : Good customers secu
   other-rows : (j : ℕ) → length (deskAt w j .rows) ≡ deskRows
   other-rows j = state.length-desk-rows w (good .sized) j
 
+  other-changed : (j : ℕ) → badCustomer w j ≡ false → fedTo k (ownerNamed customers (one j)) ≡ false → (f : Row → Row)
+      → loneOf (changeDesk (changed f) j w) k ≡ loneOf w k
+  other-changed j named other f =
+      let j-below = customer-named w good j named in
+      other-desk j _ j-below (not-own j j-below other) (desk.length-changed f (deskAt w j) ∙ other-rows j)
+
   pub other-perform : (e : Event) → fedTo k (ownerNamed customers (customerNamed e)) ≡ false → Passed w e → loneOf (wordsOf w (perform w e)) k ≡ loneOf w k
   unfolding perform
   other-perform (event.Clock t) f p = absurd (true≢false f)
@@ -240,12 +253,9 @@ module _ {customers securities : ℕ} (w : List ℕ) (good : Good customers secu
   other-perform (event.Order j x) f p =
       let j-below = order-names w good j (x .security) (passed 4 w (event.Order j x) p) .0 in
       other-desk j _ j-below (not-own j j-below f) (desk.length-ordered _ (headerOf w .clock) x (deskAt w j) ∙ other-rows j)
-  other-perform (event.Cancel j x) f p =
-      let j-below = customer-named w good j (passed 4 w (event.Cancel j x) p) in
-      other-desk j _ j-below (not-own j j-below f) (desk.length-changed (cancelledRow (x .number) (headerOf w .clock)) (deskAt w j) ∙ other-rows j)
-  other-perform (event.Match j x) f p =
-      let j-below = customer-named w good j (passed 4 w (event.Match j x) p) in
-      other-desk j _ j-below (not-own j j-below f) (desk.length-changed (matchedRow (x .number) (x .volume)) (deskAt w j) ∙ other-rows j)
+  other-perform (event.Cancel j x) f p = other-changed j (passed 4 w (event.Cancel j x) p) f (cancelledRow (x .number) (headerOf w .clock))
+  other-perform (event.Match j x) f p = other-changed j (passed 4 w (event.Match j x) p) f (matchedRow (x .number) (x .volume))
+  other-perform (event.Rest j x) f p = other-changed j (passed 4 w (event.Rest j x) p) f (restRow (x .number) (x .price))
 
   -- an event of another customer, or of nobody
   pub other-event : (b : List ℕ) → isFed customers k b ≡ false → loneOf (eventWords w b) k ≡ loneOf w k

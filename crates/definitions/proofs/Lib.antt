@@ -33,7 +33,8 @@ pub mod SessionChange
 pub mod Performed
 pub mod Standing
 pub mod Minute
-pub mod AuctionRows
+pub mod SessionRows
+pub mod RestRows
 -- the three demands
 pub mod Demands
 -- the paper's cases
@@ -48,5 +49,6 @@ pub mod SoundCorners
 pub mod MarketCorners
 pub mod RowCorners
 pub mod DoneCorners
+pub mod RestCorners
 pub mod EventCases
 pub mod AnswerCases

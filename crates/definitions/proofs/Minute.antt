@@ -20,7 +20,7 @@ use Rattle.definitions.specs.Codes.{openMark, cancelledMark, limit, minu
 use Rattle.definitions.specs.Lists.{keep, count}
 use Rattle.definitions.specs.State.{row, headerOf, deskAt}
 use Rattle.definitions.specs.Sound.{marked, soundRow}
-use Rattle.definitions.specs.Desks.{closeUp, edited, expiredRow, sessionRow, cancelledRow, matchedRow, changed, rowOfOrder, addedLast, added, counterOf, counted, takesRow, ordered}
+use Rattle.definitions.specs.Desks.{closeUp, edited, expiredRow, sessionRow, cancelledRow, matchedRow, restRow, changed, rowOfOrder, addedLast, added, counterOf, counted, takesRow, ordered}
 use Rattle.definitions.specs.Gate.{perform, eventAnswer, eventWords, wordsAfter}
 use Rattle.definitions.specs.Events.{eventIn}
 use Rattle.definitions.specs.Lone.{Lone, loneVerdict, lonePerform}
@@ -45,6 +45,7 @@ clock-moves w (event.Prices x) p = le-refl (headerOf w .clock)
 clock-moves w (event.Order k x) p = le-refl (headerOf w .clock)
 clock-moves w (event.Cancel k x) p = le-refl (headerOf w .clock)
 clock-moves w (event.Match k x) p = le-refl (headerOf w .clock)
+clock-moves w (event.Rest k x) p = le-refl (headerOf w .clock)
 
 module _ {customers securities : ℕ} where
   clock-event : (w : List ℕ) → Good customers securities w → (b : List ℕ) → headerOf w .clock ≤ headerOf (eventWords w b) .clock
@@ -80,9 +81,10 @@ module _ (l : Lone) (r : Row) (mark : r .mark ≡ cancelledMark) (type : r .«or
   left-performed (event.Prices x) = there
   left-performed (event.Order k x) =
       let v = loneVerdict l x in
-      rw (rows-counted (counterOf v) _) (either (λ (d : Desk). StandsIn r (d .rows)) (takesRow v x) _ _ (λ _. left-by-order (rowOfOrder x)) (λ _. there))
+      rw (rows-counted (counterOf v) _) (either (λ (d : Desk). StandsIn r (d .rows)) (takesRow v) _ _ (λ _. left-by-order (rowOfOrder x)) (λ _. there))
   left-performed (event.Cancel k x) = left-by (cancelledRow (x .number) (headerOf (l .market) .clock)) (rw mark)
   left-performed (event.Match k x) = left-by (matchedRow (x .number) (x .volume)) (rw mark)
+  left-performed (event.Rest k x) = left-by (restRow (x .number) (x .price)) (rw mark)
 
 module _ {customers securities : ℕ} (k : ℕ) (below : k < customers) (r : Row) (mark : r .mark ≡ cancelledMark) where
   -- "a cancelled row is a limit"

@@ -1,4 +1,4 @@
--- To whom an event belongs, said a second time, of its bytes: by its kind and by the two bytes in which kinds 5 to 7 name their customer.
+-- To whom an event belongs, said a second time, of its bytes: by its kind and by the two bytes in which kinds 5 to 8 name their customer.
 -- Assumes nothing.
 use mathlib.Core.Bool.{Bool, true, false, cond}
 use mathlib.Core.List.{List}
@@ -11,7 +11,7 @@ use lib.ListN.{length, getD, List·getD-eq-default}
 use borrow.Author.Tests.{eqb-true, eqb-false, eq-eqb, ne-eqb, ltb-true, ltb-false, lt-ltb, le-ltb}
 use Rattle.definitions.specs.declared.Event.{Event}
 use Rattle.definitions.specs.Lists.{firstMet}
-use Rattle.definitions.specs.Events.{two, kinds, lengthOf, eventOf, matchOf, bytesConditions, customerNamed, Owner, market, customer, nobody, ownerNamed, ownerOf}
+use Rattle.definitions.specs.Events.{two, kinds, lengthOf, eventOf, restOf, bytesConditions, customerNamed, Owner, market, customer, nobody, ownerNamed, ownerOf}
 
 -- neither condition 2 nor condition 3 is met
 abbrev pub Read : List ℕ → Type 0
@@ -27,7 +27,7 @@ customerIn b = two b 1
 pub record Belongs (customers : ℕ) (b : List ℕ) : Type 0 where
   pub to-market : (ownerOf customers b ≡ market) ↔ (Read b × (1 ≤ kindOf b) × (kindOf b ≤ 4))
   pub to-customer : (k : ℕ)
-      → (ownerOf customers b ≡ customer k) ↔ (Read b × (5 ≤ kindOf b) × (kindOf b ≤ 7) × (customerIn b ≡ k) × (k < customers))
+      → (ownerOf customers b ≡ customer k) ↔ (Read b × (5 ≤ kindOf b) × (kindOf b ≤ 8) × (customerIn b ≡ k) × (k < customers))
   pub to-nobody : (ownerOf customers b ≡ nobody) ↔ ((Read b → ⊥) ⊎ ((5 ≤ kindOf b) × (customers ≤ customerIn b)))
 
 -- a kind that is read is one of the table
@@ -42,22 +42,22 @@ read-known b read unknown = go (eqb (length b) 0) (rw (eq-eqb (lengthOf (kindOf 
 -- a number past the table's last is no kind
 pub past-kinds : (k : ℕ) → length kinds < k → lengthOf k ≡ 0
 unfolding lengthOf
-past-kinds k more = rw (ne-eqb k 0 (λ e. omega arith)) (ap (λ (x : ℕ × (List ℕ → Event)). x .0) (List·getD-eq-default kinds (0, matchOf) {n = k - 1} (omega arith)))
+past-kinds k more = rw (ne-eqb k 0 (λ e. omega arith)) (ap (λ (x : ℕ × (List ℕ → Event)). x .0) (List·getD-eq-default kinds (0, restOf) {n = k - 1} (omega arith)))
 
--- a kind of the table is 1 to 7, and so is the kind of an event that is read
-known-kind : (n : ℕ) → (lengthOf n ≡ 0 → ⊥) → (1 ≤ n) × (n ≤ 7)
+-- a kind of the table is 1 to 8, and so is the kind of an event that is read
+known-kind : (n : ℕ) → (lengthOf n ≡ 0 → ⊥) → (1 ≤ n) × (n ≤ 8)
 unfolding lengthOf
 known-kind zero known = absurd (known refl)
-known-kind (suc n) known = (omega arith, go (ltb 7 (suc n)) refl)
+known-kind (suc n) known = (omega arith, go (ltb 8 (suc n)) refl)
   where
-    go : (t : Bool) → ltb 7 (suc n) ≡ t → suc n ≤ 7
-    go true past = absurd (known (past-kinds (suc n) (ltb-true 7 (suc n) past)))
-    go false within = ltb-false 7 (suc n) within
+    go : (t : Bool) → ltb 8 (suc n) ≡ t → suc n ≤ 8
+    go true past = absurd (known (past-kinds (suc n) (ltb-true 8 (suc n) past)))
+    go false within = ltb-false 8 (suc n) within
 
-read-kind : (b : List ℕ) → Read b → (1 ≤ kindOf b) × (kindOf b ≤ 7)
+read-kind : (b : List ℕ) → Read b → (1 ≤ kindOf b) × (kindOf b ≤ 8)
 read-kind b read = known-kind (kindOf b) (read-known b read)
 
--- the owner by kind, and for kinds 5 to 7 by the customer that is named
+-- the owner by kind, and for kinds 5 to 8 by the customer that is named
 abbrev byKind : ℕ → ℕ → ℕ → Owner
 byKind customers kind k = cond (ltb kind 5) market (cond (ltb k customers) (customer k) nobody)
 
@@ -71,7 +71,8 @@ owner-of-kind customers b (suc (suc (suc (suc zero)))) known = refl
 owner-of-kind customers b (suc (suc (suc (suc (suc zero))))) known = refl
 owner-of-kind customers b (suc (suc (suc (suc (suc (suc zero)))))) known = refl
 owner-of-kind customers b (suc (suc (suc (suc (suc (suc (suc zero))))))) known = refl
-owner-of-kind customers b (suc (suc (suc (suc (suc (suc (suc (suc n)))))))) known = absurd (known (past-kinds (suc (suc (suc (suc (suc (suc (suc (suc n)))))))) (omega arith)))
+owner-of-kind customers b (suc (suc (suc (suc (suc (suc (suc (suc zero)))))))) known = refl
+owner-of-kind customers b (suc (suc (suc (suc (suc (suc (suc (suc (suc n))))))))) known = absurd (known (past-kinds (suc (suc (suc (suc (suc (suc (suc (suc (suc n))))))))) (omega arith)))
 
 -- which of the four an owner comes from
 data Owns (customers : ℕ) (b : List ℕ) : Owner → Type 0 where
@@ -108,7 +109,7 @@ module _ (customers : ℕ) (b : List ℕ) where
   market-from : Owns customers b market → Read b × (1 ≤ kindOf b) × (kindOf b ≤ 4)
   market-from (market-kind read early) = (read, read-kind b read .0, early)
 
-  customer-from : (k : ℕ) → Owns customers b (customer k) → Read b × (5 ≤ kindOf b) × (kindOf b ≤ 7) × (customerIn b ≡ k) × (k < customers)
+  customer-from : (k : ℕ) → Owns customers b (customer k) → Read b × (5 ≤ kindOf b) × (kindOf b ≤ 8) × (customerIn b ≡ k) × (k < customers)
   customer-from k (own-kind j own read late inside) = (read, late, read-kind b read .1, own, inside)
 
   nobody-from : Owns customers b nobody → (Read b → ⊥) ⊎ ((5 ≤ kindOf b) × (customers ≤ customerIn b))

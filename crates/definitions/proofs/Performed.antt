@@ -9,6 +9,7 @@ use lib.Dec.{eqb}
 use lib.ListN.{length}
 use borrow.Author.Tests.{eqb-true}
 use Rattle.definitions.specs.declared.Header.{Header}
+use Rattle.definitions.specs.declared.Row.{Row}
 use Rattle.definitions.specs.declared.Desk.{Desk}
 use Rattle.definitions.specs.declared.Event.{Event}
 use Rattle.definitions.specs.declared.Event.the-variants as event
@@ -17,8 +18,8 @@ use Rattle.definitions.specs.Codes.{deskRows}
 use Rattle.definitions.specs.Lists.{firstMet}
 use Rattle.definitions.specs.State.{headerOf, deskAt}
 use Rattle.definitions.specs.Events.{eventIn, customerNamed, ownerNamed}
-use Rattle.definitions.specs.Desks.{cancelledRow, matchedRow}
-use Rattle.definitions.specs.Gate.{Outcome, wordsOf, conditions, afterSession, perform, outcome, eventWords}
+use Rattle.definitions.specs.Desks.{cancelledRow, matchedRow, restRow, changed}
+use Rattle.definitions.specs.Gate.{Outcome, wordsOf, conditions, changeDesk, afterSession, perform, outcome, eventWords}
 use Rattle.definitions.specs.Lone.{Lone, lonePerform, fedTo}
 use Rattle.definitions.proofs.Tests.{either}
 use Rattle.definitions.proofs.State as state
@@ -26,7 +27,7 @@ use Rattle.definitions.proofs.HeaderWords as words
 use Rattle.definitions.proofs.HeaderWords.{withClock, withSession}
 use Rattle.definitions.proofs.Passed.{Passed, passed, none-met-event}
 use Rattle.definitions.proofs.SoundDesk as desk
-use Rattle.definitions.proofs.WellFormed.{Good, below-securities, order-names, customer-named}
+use Rattle.definitions.proofs.WellFormed.{Good, below-securities, order-names, badCustomer, customer-named}
 use Rattle.definitions.proofs.Isolation.{loneOf, same-perform, other-perform}
 use Rattle.definitions.proofs.SessionChange.{changed-words}
 
@@ -39,6 +40,7 @@ headerBy (event.Prices x) h = h
 headerBy (event.Order k x) h = h
 headerBy (event.Cancel k x) h = h
 headerBy (event.Match k x) h = h
+headerBy (event.Rest k x) h = h
 
 -- an event of another customer leaves the header
 pub other-header : (customers k : ℕ) (e : Event) (h : Header) → fedTo k (ownerNamed customers (customerNamed e)) ≡ false → headerBy e h ≡ h
@@ -49,6 +51,7 @@ other-header customers k (event.Prices x) h other = refl
 other-header customers k (event.Order j x) h other = refl
 other-header customers k (event.Cancel j x) h other = refl
 other-header customers k (event.Match j x) h other = refl
+other-header customers k (event.Rest j x) h other = refl
 
 -- what holds of the words before an event, and of those after what it does, holds of those that the gate leaves
 pub kept-by-event : (P : List ℕ → Type 0) (w : List ℕ) → P w → ((e : Event) → Passed w e → P (wordsOf w (perform w e))) → (b : List ℕ) → P (eventWords w b)
@@ -60,6 +63,10 @@ kept-by-event P w left done b =
 module _ {customers securities : ℕ} (w : List ℕ) (good : Good customers securities w) where
   rows-whole : (k : ℕ) → length (deskAt w k .rows) ≡ deskRows
   rows-whole k = state.length-desk-rows w (good .sized) k
+
+  header-changed : (k : ℕ) → badCustomer w k ≡ false → (f : Row → Row) → headerOf (changeDesk (changed f) k w) ≡ headerOf w
+  header-changed k named f =
+      state.header-put-desk w (good .sized) k (customer-named w good k named) _ (desk.length-changed f (deskAt w k) ∙ rows-whole k)
 
   pub header-performed : (e : Event) → Passed w e → headerOf (wordsOf w (perform w e)) ≡ headerBy e (headerOf w)
   unfolding perform afterSession
@@ -74,12 +81,9 @@ module _ {customers securities : ℕ} (w : List ℕ) (good : Good customers secu
   header-performed (event.Order k x) p =
       state.header-put-desk w (good .sized) k (order-names w good k (x .security) (passed 4 w (event.Order k x) p) .0) _
       (desk.length-ordered _ (headerOf w .clock) x (deskAt w k) ∙ rows-whole k)
-  header-performed (event.Cancel k x) p =
-      state.header-put-desk w (good .sized) k (customer-named w good k (passed 4 w (event.Cancel k x) p)) _
-      (desk.length-changed (cancelledRow (x .number) (headerOf w .clock)) (deskAt w k) ∙ rows-whole k)
-  header-performed (event.Match k x) p =
-      state.header-put-desk w (good .sized) k (customer-named w good k (passed 4 w (event.Match k x) p)) _
-      (desk.length-changed (matchedRow (x .number) (x .volume)) (deskAt w k) ∙ rows-whole k)
+  header-performed (event.Cancel k x) p = header-changed k (passed 4 w (event.Cancel k x) p) (cancelledRow (x .number) (headerOf w .clock))
+  header-performed (event.Match k x) p = header-changed k (passed 4 w (event.Match k x) p) (matchedRow (x .number) (x .volume))
+  header-performed (event.Rest k x) p = header-changed k (passed 4 w (event.Rest k x) p) (restRow (x .number) (x .price))
 
   -- a customer's desk is after an event as the lone run has it, or as it was where the event is neither the market's nor that customer's
   pub desk-performed : (P : Desk → Type 0) (k : ℕ) → k < customers → (e : Event) → Passed w e

@@ -16,7 +16,7 @@ use Rattle.definitions.specs.declared.Desk.{Desk}
 use Rattle.definitions.specs.declared.Counter.{Counter}
 use Rattle.definitions.specs.declared.Event.the-variants as event
 use Rattle.definitions.specs.declared.Answer.the-variants as answer
-use Rattle.definitions.specs.Codes.{openMark, cancelledMark, limit, ato, atc}
+use Rattle.definitions.specs.Codes.{openMark, cancelledMark, limit, ato, atc, mp}
 use Rattle.definitions.specs.Lists.{any, keep, count, each, firstMet}
 use Rattle.definitions.specs.State.{headerOf, securityAt, deskAt}
 use Rattle.definitions.specs.Sound.{marked}
@@ -45,16 +45,17 @@ pub record SecurityCleared (x y : Security) : Type 0 where
   pub main : ProjectedAbsent (x .main) (y .main)
   pub foreign : ProjectedAbsent (x .foreign) (y .foreign)
 
--- "removes all ATO and ATC rows": the limit rows, open and cancelled, stay word for word and in their order, and so do the counters
+-- "removes all ATO and ATC rows", and those of type 3 (paper 02, 1): the limit rows, open and cancelled, stay word for word and in their order, and so do the
+-- counters
 abbrev pub isLimitRow : Row → Bool
 isLimitRow r = (eqb (r .mark) openMark || eqb (r .mark) cancelledMark) && eqb (r .«order_type») limit
 
-abbrev pub isAuctionRow : Row → Bool
-isAuctionRow r = eqb (r .«order_type») ato || eqb (r .«order_type») atc
+abbrev pub isOtherRow : Row → Bool
+isOtherRow r = eqb (r .«order_type») ato || eqb (r .«order_type») atc || eqb (r .«order_type») mp
 
 pub record DeskCleared (d e : Desk) : Type 0 where
   pub limits : keep isLimitRow (e .rows) ≡ keep isLimitRow (d .rows)
-  pub auctions : any isAuctionRow (e .rows) ≡ false
+  pub others : any isOtherRow (e .rows) ≡ false
   pub counters : (c : Counter) → counterIn c e ≡ counterIn c d
 
 -- v is w after a change to another session
@@ -79,7 +80,7 @@ module _ (p : Row → Bool) where
       go true below = ap (λ (rs : List Row). x ∷ rs) below
       go false below = below
 
-  keep-free : (n : ℕ) → p freeRow ≡ false → keep p (replicate n freeRow) ≡ []
+  pub keep-free : (n : ℕ) → p freeRow ≡ false → keep p (replicate n freeRow) ≡ []
   unfolding keep
   keep-free zero h = refl
   keep-free (suc n) h = rw h (keep-free n h)
@@ -133,7 +134,7 @@ desk-cleared d =
     record {
       limits =
           keep-edited isLimitRow sessionRow limit-stays (λ r e. session-frees (λ (x : Row). isLimitRow x ≡ false) r refl (λ _. e)) limit-marked refl (d .rows);
-      auctions = none-edited isAuctionRow sessionRow (λ r. session-frees (λ (x : Row). isAuctionRow x ≡ false) r refl (λ other. other)) refl (d .rows);
+      others = none-edited isOtherRow sessionRow (λ r. session-frees (λ (x : Row). isOtherRow x ≡ false) r refl (λ other. other)) refl (d .rows);
       counters = λ c. counter-changed c sessionRow d;
     }
 

@@ -8,7 +8,7 @@ use Rattle.definitions.specs.declared.Verdict.the-variants.{Accept}
 use Rattle.definitions.proofs.Bytes.{clock, session, setup, prices, order, cancel, match}
 use Rattle.definitions.proofs.Run.{resultOn}
 use Rattle.definitions.proofs.Corners.{bought, buys, twoCustomers}
-use Rattle.definitions.proofs.Corner.{Corner, found, right, refused, done, verdict, written, state, clockAt, securityAt, deskAt, rowAt, security, terms, traded, plain, untraded, desk, main, foreign, buy, sell, limit, ato, atc, online, opened, cancelled, follows}
+use Rattle.definitions.proofs.Corner.{Corner, found, right, refused, done, verdict, written, state, clockAt, securityAt, deskAt, rowAt, security, terms, traded, plain, untraded, desk, main, foreign, buy, sell, limit, ato, atc, mp, online, opened, cancelled, follows}
 
 -- two customers, each with an open row number 1, and three securities; and a security, or the row of a customer, that is not sound
 abbrev pub pair : List ℕ
@@ -141,6 +141,7 @@ records =
     ∷ badRows (row 3 1 0 main buy limit 5000 100 0 ∷ [])
     ∷ badRows (row 2 1 0 main buy ato 0 100 0 ∷ [])
     ∷ badRows (row 2 1 0 main buy atc 0 100 5_000 ∷ [])
+    ∷ badRows (row 2 1 0 main buy mp 0 100 5_000 ∷ [])
     -- "a number above 0 that no other marked row of its desk has"
     ∷ badRows (row 1 0 0 main buy limit 5000 100 0 ∷ [])
     ∷ soundRows (opened (bought 4_294_967_295) ∷ opened (bought 1) ∷ cancelled 0 (bought 2) ∷ [])
@@ -152,8 +153,12 @@ records =
     ∷ soundRows (row 1 1 0 foreign sell limit 5000 100 0 ∷ [])
     ∷ badRows (row 1 1 0 2 buy limit 5000 100 0 ∷ [])
     ∷ badRows (row 1 1 0 main 2 limit 5000 100 0 ∷ [])
-    ∷ badRows (row 1 1 0 main buy 3 0 100 0 ∷ [])
-    -- "a ladder price for a limit and 0 for ATO and ATC"
+    ∷ badRows (row 1 1 0 main buy 4 0 100 0 ∷ [])
+    -- "a ladder price for a limit and 0 for ATO and ATC"; paper 02, 1: "of type 3, sound only with price 0"
+    ∷ soundRows (row 1 1 0 main buy mp 0 100 0 ∷ row 1 2 0 foreign sell mp 0 1 0 ∷ [])
+    ∷ badRows (row 1 1 0 main buy mp 5000 100 0 ∷ [])
+    ∷ badRows (row 1 1 0 main buy mp 1 100 0 ∷ [])
+    ∷ badRows (row 1 1 0 main buy mp 0 100 1 ∷ [])
     ∷ soundRows (row 1 1 0 main buy limit 10_000_000 100 0 ∷ row 1 2 0 main buy limit 1 100 0 ∷ [])
     ∷ soundRows (row 1 1 0 main buy ato 0 100 0 ∷ row 1 2 0 main sell atc 0 100 0 ∷ [])
     ∷ badRows (row 1 1 0 main buy limit 0 100 0 ∷ [])

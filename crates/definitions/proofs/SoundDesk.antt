@@ -1,4 +1,4 @@
--- A sound desk stays sound: as the clock goes on, and after a session change, a cancel, a match report and an order.
+-- A sound desk stays sound: as the clock goes on, after a change of its rows, and after an order.
 -- Assumes nothing.
 use mathlib.Core.Bool.{Bool, true, false, cond, _||_, not, true≢false}
 use mathlib.Core.List.{List, [], _∷_, _++_, map}
@@ -16,13 +16,13 @@ use Rattle.definitions.specs.declared.Desk.{Desk}
 use Rattle.definitions.specs.declared.Order.{Order}
 use Rattle.definitions.specs.declared.Verdict.{Verdict}
 use Rattle.definitions.specs.declared.Verdict.the-variants as verdict
-use Rattle.definitions.specs.Codes.{foreignBoard, sell, atc, mp, dma, deskRows, maxVolume}
+use Rattle.definitions.specs.Codes.{foreignBoard, sell, mp, dma, deskRows, maxVolume}
 use Rattle.definitions.specs.Lists.{any, all, count, keep}
 use Rattle.definitions.specs.Sound.{marked, numbered, pricedAs, soundRow, markedFirst, numbersDiffer, soundDesk}
 use Rattle.definitions.specs.Desks.{freeRow, freshDesk, openOrInMinute, closeUp, edited, expiredRow, changed, rowOfOrder, addedLast, added, counterOf, countedAs, isRejected, counted, takesRow, ordered}
 use Rattle.definitions.specs.Rules.{View, ruleS, ruleV, verdictOf}
 use Rattle.definitions.specs.Refusals.{badCode, holdsNumber, numberTaken, deskFull}
-use Rattle.definitions.proofs.Tests.{and-parts, and-whole, and-second, or-parts, joined-parts, joined-whole}
+use Rattle.definitions.proofs.Tests.{and-whole, and-second, or-parts, joined-parts, joined-whole}
 use Rattle.definitions.proofs.Rows.{KeepsNumbers, all-append, all-replicate, all-kept, all-keep, all-weaken, all-map, any-keep, any-map-same, count-map-same, count-le, length-edited, first-closed, differ-closed, differ-keep, differ-map, differ-last, added-closed}
 use Rattle.definitions.proofs.SoundRow.{true-marked, free-row, later-row, expired-sound, expired-kept, expired-openOrInMinute, expired-numbered}
 
@@ -44,7 +44,7 @@ rows-counted counts.Rejected x = refl
 
 pub length-ordered : (v : Verdict) (clock : ℕ) (o : Order) (d : Desk) → length (ordered v clock o d .rows) ≡ length (d .rows)
 unfolding ordered counted
-length-ordered v clock o d = ap length (rows-counted (counterOf v) (cond (takesRow v o) (added clock o d) d)) ∙ go (takesRow v o)
+length-ordered v clock o d = ap length (rows-counted (counterOf v) (cond (takesRow v) (added clock o d) d)) ∙ go (takesRow v)
   where
     go : (t : Bool) → length (cond t (added clock o d) d .rows) ≡ length (d .rows)
     go true = length-added clock o d
@@ -118,11 +118,6 @@ above-zero n e =
     let differs : ¬ (n ≡ 0) = eqb-false n 0 e in
     omega arith
 
-below-mp : (n : ℕ) → ltb mp n ≡ false → eqb n mp ≡ false → n ≤ atc
-below-mp n most other =
-    let differs : ¬ (n ≡ mp) = eqb-false n mp other in
-    omega (arith, ltb-false mp n most)
-
 -- a verdict that is no reject says that rules S and V do not apply
 pub no-rules : (v : View) (o : Order) → isRejected (counterOf (verdictOf v o)) ≡ false → (ruleS (v .market) o ≡ false) × (ruleV (v .market) o ≡ false)
 unfolding verdictOf
@@ -170,9 +165,9 @@ order-fits securities m o n c p v =
       most-volume = v₀ .1;
     }
 
--- such an order, not MP, makes a sound row
-order-row : (S clock : ℕ) (o : Order) → Fits S o → eqb (o .«order_type») mp ≡ false → soundRow S clock (rowOfOrder o) ≡ true
-order-row S clock o f other =
+-- such an order makes a sound row
+order-row : (S clock : ℕ) (o : Order) → Fits S o → soundRow S clock (rowOfOrder o) ≡ true
+order-row S clock o f =
     true-marked S clock
     (rowOfOrder o)
     (record {
@@ -181,7 +176,7 @@ order-row S clock o f other =
       security = lt-ltb (o .security) S (leb-false S (o .security) (f .security));
       board = le-leb (o .board) foreignBoard (ltb-false foreignBoard (o .board) (f .board));
       side = le-leb (o .side) sell (ltb-false sell (o .side) (f .side));
-      «order_type» = le-leb (o .«order_type») atc (below-mp (o .«order_type») (f .most-type) other);
+      «order_type» = le-leb (o .«order_type») mp (ltb-false mp (o .«order_type») (f .most-type));
       price = not-false (pricedAs (o .«order_type») (o .price)) (f .price);
       least = le-leb 1 (o .volume) (above-zero (o .volume) (f .volume));
       most = le-leb (o .volume) maxVolume (ltb-false maxVolume (o .volume) (f .most-volume));
@@ -249,7 +244,7 @@ pub sound-ordered : (securities : ℕ) (m : MarketView) (d : Desk) (o : Order) �
     → soundDesk securities (m .clock) (ordered (verdictOf (record { market = m; desk = d }) o) (m .clock) o d) ≡ true
 unfolding ordered counted added
 sound-ordered securities m d o size e n c p free full =
-    true-desk securities (m .clock) (ordered v (m .clock) o d) (rw (rows-counted (counterOf v) (cond (takesRow v o) (added (m .clock) o d) d)) (go (takesRow v o) refl))
+    true-desk securities (m .clock) (ordered v (m .clock) o d) (rw (rows-counted (counterOf v) (cond (takesRow v) (added (m .clock) o d) d)) (go (takesRow v) refl))
   where
     v : Verdict
     v = verdictOf (record { market = m; desk = d }) o
@@ -257,14 +252,13 @@ sound-ordered securities m d o size e n c p free full =
     sound : SoundRows securities (m .clock) (d .rows)
     sound = desk-true securities (m .clock) d e
 
-    new-row : takesRow v o ≡ true → soundRow securities (m .clock) (rowOfOrder o) ≡ true
+    new-row : takesRow v ≡ true → soundRow securities (m .clock) (rowOfOrder o) ≡ true
     new-row takes =
-        let taken = and-parts (not (isRejected (counterOf v))) (not (eqb (o .«order_type») mp)) takes in
-        let rule = no-rules (record { market = m; desk = d }) o (not-true (isRejected (counterOf v)) (taken .0)) .1 in
-        order-row securities (m .clock) o (order-fits securities m o n c p rule) (not-true (eqb (o .«order_type») mp) (taken .1))
+        let rule = no-rules (record { market = m; desk = d }) o (not-true (isRejected (counterOf v)) takes) .1 in
+        order-row securities (m .clock) o (order-fits securities m o n c p rule)
 
-    go : (t : Bool) → takesRow v o ≡ t → SoundRows securities (m .clock) (cond t (added (m .clock) o d) d .rows)
+    go : (t : Bool) → takesRow v ≡ t → SoundRows securities (m .clock) (cond t (added (m .clock) o d) d .rows)
     go true takes =
         sound-added securities (m .clock) (d .rows) sound o size (new-row takes) free
-        (and-second (takesRow v o) (eqb (count (openOrInMinute (m .clock)) (d .rows)) deskRows) full takes)
+        (and-second (takesRow v) (eqb (count (openOrInMinute (m .clock)) (d .rows)) deskRows) full takes)
     go false takes = sound

@@ -1,22 +1,24 @@
 -- One row of a sound desk: each change of a row leaves it sound, marks no free row and keeps the number of a row that stays.
 -- Assumes nothing.
-use mathlib.Core.Bool.{Bool, true, false, cond, _&&_, not, false≢true}
+use mathlib.Core.Bool.{Bool, true, false, cond, _&&_, _||_, not, false≢true}
 use mathlib.Core.List.{List, [], _∷_}
 use mathlib.Core.Logic.{_⊎_, inl, inr, ⊎-elim}
-use mathlib.Core.Path.{_≡_, refl, ap}
+use mathlib.Core.Path.{_≡_, refl, ap, ap₂}
 use Prim.Native.Nat.{ℕ, _-_, _≤_}
 use native.Mathlib.Omega.{arith}
 use lib.Dec.{leb, ltb, eqb}
+use lib.ListN.{length, replicate}
 use borrow.Author.Tests.{leb-true, leb-false, eqb-true, not-true, le-leb}
+use Rattle.ladder.specs.Ladder.{legal}
 use Rattle.definitions.specs.declared.Row.{Row}
-use Rattle.definitions.specs.Codes.{freeMark, openMark, cancelledMark, foreignBoard, sell, limit, atc, maxVolume, isAuction}
+use Rattle.definitions.specs.Codes.{freeMark, openMark, cancelledMark, foreignBoard, sell, limit, mp, maxVolume, isAuction}
 use Rattle.definitions.specs.Sound.{marked, allZero, pricedAs, openOrCancelled, soundMarked, soundRow, numbered}
-use Rattle.definitions.specs.Desks.{freeRow, cancelledInMinute, isOpen, openOrInMinute, openWith, expiredRow, sessionRow, markedCancelled, cancelledRow, withVolume, matchedRow, inMinute}
+use Rattle.definitions.specs.Desks.{freeRow, cancelledInMinute, isOpen, openOrInMinute, openWith, expiredRow, sessionRow, markedCancelled, cancelledRow, withVolume, matchedRow, openMpWith, limitAt, restRow, inMinute}
 use Rattle.definitions.specs.Refusals.{holdsNumber}
 use Rattle.definitions.proofs.Tests.{never, either, and-parts, and-whole, and-same, or-first, or-second, or-cases, joined-parts, joined-whole}
 use Rattle.definitions.proofs.Rows.{KeepsNumbers}
 use Rattle.definitions.specs.Lists.{all}
-use Rattle.definitions.specs.State.{rowWords}
+use Rattle.definitions.specs.State.{rowOf, rowWords}
 
 -- a sound marked row, with a name for each part of the test
 pub record SoundMarked (securities clock : ℕ) (r : Row) : Type 0 where
@@ -25,7 +27,7 @@ pub record SoundMarked (securities clock : ℕ) (r : Row) : Type 0 where
   pub security : ltb (r .security) securities ≡ true
   pub board : leb (r .board) foreignBoard ≡ true
   pub side : leb (r .side) sell ≡ true
-  pub «order_type» : leb (r .«order_type») atc ≡ true
+  pub «order_type» : leb (r .«order_type») mp ≡ true
   pub price : pricedAs (r .«order_type») (r .price) ≡ true
   pub least : leb 1 (r .volume) ≡ true
   pub most : leb (r .volume) maxVolume ≡ true
@@ -37,7 +39,7 @@ laterTests securities r =
     ∷ ltb (r .security) securities
     ∷ leb (r .board) foreignBoard
     ∷ leb (r .side) sell
-    ∷ leb (r .«order_type») atc
+    ∷ leb (r .«order_type») mp
     ∷ pricedAs (r .«order_type») (r .price)
     ∷ leb 1 (r .volume)
     ∷ leb (r .volume) maxVolume
@@ -123,6 +125,48 @@ cancelled-limit S clock r e m =
     ⊎-elim (λ o. absurd (omega (arith, eqb-true (r .mark) openMark (o .mark)))) (λ c. eqb-true (r .«order_type») limit (c .«order_type»))
     (state-cases clock r (row-marked S clock r e (rw m) .state))
 
+-- "free rows are all zero"
+zeros : (xs : List ℕ) → all (λ (n : ℕ). eqb n 0) xs ≡ true → xs ≡ replicate (length xs) 0
+unfolding all
+zeros [] e = refl
+zeros (x ∷ xs) e =
+    let parts = and-parts (eqb x 0) (all (λ (n : ℕ). eqb n 0) xs) e in
+    ap₂ (λ (y : ℕ) (ys : List ℕ). y ∷ ys) (eqb-true x 0 (parts .0)) (zeros xs (parts .1))
+
+zero-free : (r : Row) → allZero r ≡ true → r ≡ freeRow
+unfolding rowWords rowOf
+zero-free r e = ap rowOf (zeros (rowWords r) e)
+
+state-marked : (clock : ℕ) (r : Row) → openOrCancelled clock r ≡ true → marked r ≡ true
+state-marked clock r e =
+    ⊎-elim (λ o. rw (eqb-true (r .mark) openMark (o .mark))) (λ c. rw (eqb-true (r .mark) cancelledMark (c .mark))) (state-cases clock r e)
+
+-- a sound row that is not marked is the free row
+pub unmarked-free : (S clock : ℕ) (r : Row) → soundRow S clock r ≡ true → marked r ≡ false → r ≡ freeRow
+unmarked-free S clock r e m = ⊎-elim (zero-free r) (λ h. never (state-marked clock r (h .state)) m) (row-cases S clock r e)
+
+-- an open row's cancel time is 0, and a row of type 3 is open with price 0
+pub open-time : (S clock : ℕ) (r : Row) → soundRow S clock r ≡ true → r .mark ≡ openMark → r .«cancel_time» ≡ 0
+open-time S clock r e m =
+    ⊎-elim (λ o. eqb-true (r .«cancel_time») 0 (o .time)) (λ c. absurd (omega (arith, eqb-true (r .mark) cancelledMark (c .mark))))
+    (state-cases clock r (row-marked S clock r e (rw m) .state))
+
+pub record MpRow (r : Row) : Type 0 where
+  pub mark : r .mark ≡ openMark
+  pub price : r .price ≡ 0
+
+pub mp-row : (S clock : ℕ) (r : Row) → soundRow S clock r ≡ true → r .«order_type» ≡ mp → MpRow r
+mp-row S clock r e type = ⊎-elim (λ z. absurd (omega (arith, ap (λ (x : Row). x .«order_type») (zero-free r z)))) sound (row-cases S clock r e)
+  where
+    sound : SoundMarked S clock r → MpRow r
+    sound h =
+        record {
+          mark =
+              ⊎-elim (λ o. eqb-true (r .mark) openMark (o .mark)) (λ c. absurd (omega (arith, eqb-true (r .«order_type») limit (c .«order_type»))))
+              (state-cases clock r (h .state));
+          price = eqb-true (r .price) 0 (rw type at (h .price));
+        }
+
 -- a cancel time that is at most the clock is at most a later clock
 later-state : (clock later : ℕ) (r : Row) → clock ≤ later → openOrCancelled clock r ≡ true → openOrCancelled later r ≡ true
 later-state clock later r h e =
@@ -154,8 +198,8 @@ later-row S clock later h r e =
 open-marked : (number : ℕ) (r : Row) → openWith number r ≡ true → marked r ≡ true
 open-marked number r e = rw (eqb-true (r .mark) openMark (and-parts (isOpen r) (eqb (r .number) number) e .0))
 
--- what holds of a free row, of the row itself and of what a change makes of it holds of the changed row. A session change leaves no row of ATO and ATC.
-pub session-frees : (P : Row → Type 0) (r : Row) → P freeRow → (isAuction (r .«order_type») ≡ false → P r) → P (sessionRow r)
+-- what holds of a free row, of the row itself and of what a change makes of it holds of the changed row. A session change leaves no row of ATO, ATC and MP.
+pub session-frees : (P : Row → Type 0) (r : Row) → P freeRow → ((isAuction (r .«order_type») || eqb (r .«order_type») mp) ≡ false → P r) → P (sessionRow r)
 session-frees P r free left = either P _ freeRow r (λ _. free) left
 
 pub expired-frees : (P : Row → Type 0) (clock : ℕ) (r : Row) → P freeRow → P r → P (expiredRow clock r)
@@ -168,6 +212,9 @@ cancelled-frees P number clock r free left marks = either P (openWith number r) 
 pub matched-frees : (P : Row → Type 0) (number volume : ℕ) (r : Row) → P freeRow → P r
     → (openWith number r ≡ true → leb (r .volume) volume ≡ false → P (withVolume (r .volume - volume) r)) → P (matchedRow number volume r)
 matched-frees P number volume r free left lowers = either P (openWith number r) _ r (λ opened. either P _ freeRow _ (λ _. free) (lowers opened)) (λ _. left)
+
+pub rest-frees : (P : Row → Type 0) (number price : ℕ) (r : Row) → P r → (openMpWith number r ≡ true → P (limitAt price r)) → P (restRow number price r)
+rest-frees P number price r left limited = either P (openMpWith number r) (limitAt price r) r limited (λ _. left)
 
 -- the changes leave a row sound
 module _ (S clock : ℕ) where
@@ -221,6 +268,35 @@ module _ (S clock : ℕ) where
   matched-sound number volume r e =
       matched-frees Sound number volume r (free-row S clock) e (λ opened. withVolume-sound volume r (row-marked S clock r e (open-marked number r opened)))
 
+  -- the row stays open, or cancelled, as it is
+  limitAt-state : (price : ℕ) (r : Row) → openOrCancelled clock r ≡ true → openOrCancelled clock (limitAt price r) ≡ true
+  limitAt-state price r e =
+      let x = limitAt price r in
+      ⊎-elim (λ o. open-state clock x (record { mark = o .mark; time = o .time }))
+      (λ c. cancelled-state clock x (record { mark = c .mark; time = c .time; «order_type» = refl }))
+      (state-cases clock r e)
+
+  limitAt-sound : (price : ℕ) → legal price ≡ true → (r : Row) → SoundMarked S clock r → soundRow S clock (limitAt price r) ≡ true
+  limitAt-sound price on-ladder r h =
+      true-marked S clock
+      (limitAt price r)
+      (record {
+        state = limitAt-state price r (h .state);
+        number = h .number;
+        security = h .security;
+        board = h .board;
+        side = h .side;
+        «order_type» = refl;
+        price = or-first false on-ladder;
+        least = h .least;
+        most = h .most;
+      })
+
+  pub rest-sound : (number price : ℕ) → legal price ≡ true → (r : Row) → soundRow S clock r ≡ true → soundRow S clock (restRow number price r) ≡ true
+  rest-sound number price on-ladder r e =
+      rest-frees Sound number price r e
+      (λ opened. limitAt-sound price on-ladder r (row-marked S clock r e (open-marked number r (and-parts (openWith number r) (eqb (r .«order_type») mp) opened .0))))
+
 -- they mark none anew, and a row that stays keeps its number
 abbrev Kept : Row → Row → Type 0
 Kept r x = marked x ≡ true → (marked r ≡ true) × (x .number ≡ r .number)
@@ -242,6 +318,9 @@ cancelled-kept number clock r = cancelled-frees (Kept r) number clock r (gone r)
 
 pub matched-kept : (number volume : ℕ) → KeepsNumbers (matchedRow number volume)
 matched-kept number volume r = matched-frees (Kept r) number volume r (gone r) (stays r) (λ _ _ m. (m, refl))
+
+pub rest-kept : (number price : ℕ) → KeepsNumbers (restRow number price)
+rest-kept number price r = rest-frees (Kept r) number price r (stays r) (λ _ m. (m, refl))
 
 -- the three marks that a sound row may have
 mark-cases : (S clock : ℕ) (r : Row) → soundRow S clock r ≡ true

@@ -9,16 +9,18 @@ use native.Mathlib.Nat.{le-refl}
 use native.Mathlib.Omega.{arith}
 use lib.Dec.{leb, eqb, lit≤, lit<}
 use lib.ListN.{length}
-use borrow.Author.Tests.{eq-eqb, le-leb, leb-false, ltb-false, eqb-true, lt-leb}
+use borrow.Author.Tests.{eq-eqb, le-leb, leb-false, ltb-false, eqb-true, lt-leb, not-false}
+use Rattle.ladder.specs.Ladder.{legal}
 use Rattle.definitions.specs.declared.Header.{Header}
 use Rattle.definitions.specs.declared.Security.{Security}
+use Rattle.definitions.specs.declared.Row.{Row}
 use Rattle.definitions.specs.declared.Desk.{Desk}
 use Rattle.definitions.specs.declared.Event.{Event}
 use Rattle.definitions.specs.declared.Event.the-variants as event
 use Rattle.definitions.specs.Codes.{lastTime, preClose, deskRows}
 use Rattle.definitions.specs.Lists.{allBelow, each, put, firstMet}
 use Rattle.definitions.specs.State.{headerOf, securityAt, deskAt, putSecurity, putDesk, stateFits, sizesFit, stateSize, sessionPlace, headerSize, clockPlace}
-use Rattle.definitions.specs.Sound.{soundSecurity, soundDesk}
+use Rattle.definitions.specs.Sound.{soundSecurity, soundRow, soundDesk}
 use Rattle.definitions.specs.Events.{eventIn, Named, none, one, every, customerNamed, securityNamed}
 use Rattle.definitions.specs.Refusals.{beyond, badName}
 use Rattle.definitions.specs.Gate.{refused, wordsOf, marketViewAt, soundSecurityAt, soundDeskAt, soundNamed, recordsSound, conditions, changeDesk, sessionMarket, afterSession, perform, outcome, eventWords}
@@ -28,10 +30,11 @@ use Rattle.definitions.proofs.State.{Sized}
 use Rattle.definitions.proofs.HeaderWords as words
 use Rattle.definitions.proofs.Passed.{Passed, passed, none-met-event}
 use Rattle.definitions.proofs.Session.{Cleared, clears, DesksChanged, changes}
+use Rattle.definitions.proofs.Rows.{KeepsNumbers}
 use Rattle.definitions.proofs.SoundDesk as desk
 use Rattle.definitions.proofs.SoundSecurity as security
-use Rattle.definitions.proofs.SoundRow.{session-sound, session-kept, cancelled-sound, cancelled-kept, matched-sound, matched-kept}
-use Rattle.definitions.specs.Desks.{sessionRow, cancelledRow, matchedRow, changed}
+use Rattle.definitions.proofs.SoundRow.{session-sound, session-kept, cancelled-sound, cancelled-kept, matched-sound, matched-kept, rest-sound, rest-kept}
+use Rattle.definitions.specs.Desks.{sessionRow, cancelledRow, matchedRow, restRow, changed}
 
 pub record Good (customers securities : ℕ) (w : List ℕ) : Type 0 where
   pub sized : Sized customers securities w
@@ -52,6 +55,10 @@ named-sound : (n : ℕ) (p : ℕ → Bool) (x : Named) → ((i : ℕ) → i < n 
 named-sound n p none h inside = refl
 named-sound n p (one i) h inside = h i (leb-false n i inside)
 named-sound n p every h inside = all-below n p h
+
+-- condition 4 of an event that names a customer and no security
+abbrev pub badCustomer : List ℕ → ℕ → Bool
+badCustomer w k = leb (headerOf w .customers) k || false
 
 abbrev pub sessionSet : ℕ → List ℕ → List ℕ
 sessionSet s w = put w sessionPlace (s ∷ [])
@@ -201,9 +208,18 @@ module _ {customers securities : ℕ} (w : List ℕ) (good : Good customers secu
     below-securities s (or-parts (leb (headerOf w .customers) k) (leb (headerOf w .securities) s) e .1),
   )
 
-  -- the customer of a cancel or a match report, where condition 4 is not met
-  pub customer-named : (k : ℕ) → (leb (headerOf w .customers) k || false) ≡ false → k < customers
+  -- the customer of an event that names no security, where condition 4 is not met
+  pub customer-named : (k : ℕ) → badCustomer w k ≡ false → k < customers
   customer-named k e = below-customers k (or-parts (leb (headerOf w .customers) k) false e .0)
+
+  -- a desk with its rows changed, each left sound and with its number
+  good-changed : (k : ℕ) → badCustomer w k ≡ false → (f : Row → Row)
+      → ((r : Row) → soundRow securities (headerOf w .clock) r ≡ true → soundRow securities (headerOf w .clock) (f r) ≡ true) → KeepsNumbers f
+      → Good customers securities (changeDesk (changed f) k w)
+  good-changed k named f sound kept =
+      let below = customer-named k named in
+      good-put-desk k _ below (desk.length-changed f (deskAt w k) ∙ state.length-desk-rows w (good .sized) k)
+      (desk.sound-changed securities (headerOf w .clock) f sound kept (deskAt w k) (good .desks-sound k below))
 
   -- what an event that meets no condition does keeps a state well formed
   pub performs : (e : Event) → Passed w e → Good customers securities (wordsOf w (perform w e))
@@ -228,13 +244,15 @@ module _ {customers securities : ℕ} (w : List ℕ) (good : Good customers secu
       good-put-desk k _ (below .0) (desk.length-ordered _ (headerOf w .clock) x d ∙ rows)
       (desk.sound-ordered securities (marketViewAt w (x .security)) d x rows (good .desks-sound k (below .0)) within (passed 5 w at p) (passed 6 w at p) (passed 9 w at p) (passed 12 w at p))
   performs (event.Cancel k x) p =
-      let below = customer-named k (passed 4 w (event.Cancel k x) p) in
-      good-put-desk k _ below (desk.length-changed (cancelledRow (x .number) (headerOf w .clock)) (deskAt w k) ∙ state.length-desk-rows w (good .sized) k)
-      (desk.sound-changed securities (headerOf w .clock) _ (cancelled-sound securities (headerOf w .clock) (x .number)) (cancelled-kept (x .number) (headerOf w .clock)) (deskAt w k) (good .desks-sound k below))
+      good-changed k (passed 4 w (event.Cancel k x) p) (cancelledRow (x .number) (headerOf w .clock)) (cancelled-sound securities (headerOf w .clock) (x .number))
+      (cancelled-kept (x .number) (headerOf w .clock))
   performs (event.Match k x) p =
-      let below = customer-named k (passed 4 w (event.Match k x) p) in
-      good-put-desk k _ below (desk.length-changed (matchedRow (x .number) (x .volume)) (deskAt w k) ∙ state.length-desk-rows w (good .sized) k)
-      (desk.sound-changed securities (headerOf w .clock) _ (matched-sound securities (headerOf w .clock) (x .number) (x .volume)) (matched-kept (x .number) (x .volume)) (deskAt w k) (good .desks-sound k below))
+      good-changed k (passed 4 w (event.Match k x) p) (matchedRow (x .number) (x .volume)) (matched-sound securities (headerOf w .clock) (x .number) (x .volume))
+      (matched-kept (x .number) (x .volume))
+  performs (event.Rest k x) p =
+      good-changed k (passed 4 w (event.Rest k x) p) (restRow (x .number) (x .price))
+      (rest-sound securities (headerOf w .clock) (x .number) (x .price) (not-false (legal (x .price)) (passed 6 w (event.Rest k x) p)))
+      (rest-kept (x .number) (x .price))
 
   -- each event keeps a state well formed
   pub keeps : (b : List ℕ) → Good customers securities (eventWords w b)

@@ -43,7 +43,7 @@ buy = 0
 abbrev pub sell : ℕ
 sell = 1
 
--- type (0 limit, 1 ATO, 2 ATC); "Type 3 is MP"
+-- type (0 limit, 1 ATO, 2 ATC); "Type 3 is MP", in a row since paper 02, 1
 abbrev pub limit : ℕ
 limit = 0
 

@@ -11,7 +11,7 @@ use Rattle.definitions.specs.declared.Verdict.{Verdict}
 use Rattle.definitions.specs.declared.Verdict.the-variants as verdict
 use Rattle.definitions.specs.declared.Counter.{Counter}
 use Rattle.definitions.specs.declared.Counter.the-variants as counts
-use Rattle.definitions.specs.Codes.{freeMark, openMark, cancelledMark, mp, isLimit, isAuction, minute, deskRows, maxCount}
+use Rattle.definitions.specs.Codes.{freeMark, openMark, cancelledMark, limit, mp, isLimit, isAuction, minute, deskRows, maxCount}
 use Rattle.definitions.specs.Lists.{keep, count}
 use Rattle.definitions.specs.State.{row}
 use Rattle.definitions.specs.Sound.{marked}
@@ -54,11 +54,11 @@ edited f rows = closeUp (map f rows)
 abbrev pub expiredRow : ℕ → Row → Row
 expiredRow clock r = cond (eqb (r .mark) cancelledMark && not (cancelledInMinute clock r)) freeRow r
 
--- "removes the desk's ATO and ATC rows"
+-- "removes the desk's ATO and ATC rows"; paper 02, 1: "Cancel and session change treat type 3 as ATO"
 abbrev pub sessionRow : Row → Row
-sessionRow r = cond (isAuction (r .«order_type»)) freeRow r
+sessionRow r = cond (isAuction (r .«order_type») || eqb (r .«order_type») mp) freeRow r
 
--- "marks an open limit row cancelled at the clock, or removes an ATO or ATC row"
+-- "marks an open limit row cancelled at the clock, or removes an ATO or ATC row", and one of type 3
 abbrev pub markedCancelled : ℕ → Row → Row
 markedCancelled clock r =
     row cancelledMark (r .number) (r .security) (r .board) (r .side) (r .«order_type») (r .price) (r .volume) clock
@@ -74,6 +74,17 @@ withVolume volume r =
 abbrev pub matchedRow : ℕ → ℕ → Row → Row
 matchedRow number volume r =
     cond (openWith number r) (cond (leb (r .volume) volume) freeRow (withVolume (r .volume - volume) r)) r
+
+-- paper 02, 1: "an open type 3 row"
+abbrev pub openMpWith : ℕ → Row → Bool
+openMpWith number r = openWith number r && eqb (r .«order_type») mp
+
+-- "It makes an open type 3 row a limit at that ladder price"
+abbrev pub limitAt : ℕ → Row → Row
+limitAt price r = row (r .mark) (r .number) (r .security) (r .board) (r .side) limit price (r .volume) (r .«cancel_time»)
+
+abbrev pub restRow : ℕ → ℕ → Row → Row
+restRow number price r = cond (openMpWith number r) (limitAt price r) r
 
 abbrev pub withRows : List Row → Desk → Desk
 withRows rows d = desk (d .accepted) (d .warned) (d .rejected) rows
@@ -117,14 +128,14 @@ countedAs counts.Rejected d = desk (d .accepted) (d .warned) (countedUp (d .reje
 unfoldable pub counted : Verdict → Desk → Desk
 counted v d = countedAs (counterOf v) d
 
--- "Accepted or warned, not MP": the order takes a row
+-- "Accepted or warned": the order takes a row; paper 02, 1: "An accepted MP order now takes a row as others do, of type 3"
 abbrev pub isRejected : Counter → Bool
 isRejected counts.Accepted = false
 isRejected counts.Warned = false
 isRejected counts.Rejected = true
 
-abbrev pub takesRow : Verdict → Order → Bool
-takesRow v o = not (isRejected (counterOf v)) && not (eqb (o .«order_type») mp)
+abbrev pub takesRow : Verdict → Bool
+takesRow v = not (isRejected (counterOf v))
 
 unfoldable pub ordered : Verdict → ℕ → Order → Desk → Desk
-ordered v clock o d = counted v (cond (takesRow v o) (added clock o d) d)
+ordered v clock o d = counted v (cond (takesRow v) (added clock o d) d)

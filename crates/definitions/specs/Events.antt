@@ -56,23 +56,27 @@ cancelOf b = event.Cancel (two b 1) (record { number = four b 3 })
 abbrev pub matchOf : List ℕ → Event
 matchOf b = event.Match (two b 1) (record { number = four b 3; volume = four b 7 })
 
+-- paper 02, 1: "New event kind 8, length 11: customer (2), number (4), price (4)."
+abbrev pub restOf : List ℕ → Event
+restOf b = event.Rest (two b 1) (record { number = four b 3; price = four b 7 })
+
 -- the table from kind 1 on: length and body
 abbrev pub kinds : List (ℕ × (List ℕ → Event))
-kinds = (5, clockOf) ∷ (2, sessionOf) ∷ (14, setupOf) ∷ (20, pricesOf) ∷ (21, orderOf) ∷ (7, cancelOf) ∷ (11, matchOf) ∷ []
+kinds = (5, clockOf) ∷ (2, sessionOf) ∷ (14, setupOf) ∷ (20, pricesOf) ∷ (21, orderOf) ∷ (7, cancelOf) ∷ (11, matchOf) ∷ (11, restOf) ∷ []
 
 -- 0 for an unknown kind, for which 3 is found before its body matters
 unfoldable pub lengthOf : ℕ → ℕ
-lengthOf kind = cond (eqb kind 0) 0 (getD kinds (kind - 1) (0, matchOf) .0)
+lengthOf kind = cond (eqb kind 0) 0 (getD kinds (kind - 1) (0, restOf) .0)
 
 unfoldable pub eventOf : ℕ → List ℕ → Event
-eventOf kind b = getD kinds (kind - 1) (0, matchOf) .1 b
+eventOf kind b = getD kinds (kind - 1) (0, restOf) .1 b
 
 -- "An event is read whole": the event as its kind lays it out
 abbrev pub eventIn : List ℕ → Event
 eventIn b = eventOf (getD b 0 0) b
 
--- the table's place "event bytes", conditions 2 and 3: "empty, or not the kind's length", "kind not 1 to 7"; "an unknown kind is found before a
--- wrong length"
+-- the table's place "event bytes", conditions 2 and 3: "empty, or not the kind's length", "kind not 1 to 7", and since paper 02, 1,
+-- not 8; "an unknown kind is found before a wrong length"
 abbrev pub bytesConditions : List ℕ → List (ℕ × Bool)
 bytesConditions b =
     (2, eqb (length b) 0)
@@ -94,6 +98,7 @@ named (event.Prices x) = (none, one (x .security))
 named (event.Order k x) = (one k, one (x .security))
 named (event.Cancel k x) = (one k, none)
 named (event.Match k x) = (one k, none)
+named (event.Rest k x) = (one k, none)
 
 abbrev pub customerNamed : Event → Named
 customerNamed e = named e .0
@@ -102,7 +107,7 @@ abbrev pub securityNamed : Event → Named
 securityNamed e = named e .1
 
 -- "Kinds 5 to 7 belong to the customer they name; 1 to 4, and any later kind that names no customer, are market events. An event that meets
--- condition 2 or 3 below, or one with a customer of C or more, belongs to nobody."
+-- condition 2 or 3 below, or one with a customer of C or more, belongs to nobody." Paper 02, 1, of kind 8: "The event belongs to its customer."
 pub data Owner : Type 0 where
   market : Owner
   customer : ℕ → Owner

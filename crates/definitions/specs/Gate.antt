@@ -23,7 +23,7 @@ use Rattle.definitions.specs.Lists.{allBelow, each, put, firstMet}
 use Rattle.definitions.specs.State.{headerOf, securityAt, deskAt, putSecurity, putDesk, stateFits, sizesFit, stateSize, fresh, clockPlace, sessionPlace}
 use Rattle.definitions.specs.Sound.{soundSecurity, soundDesk}
 use Rattle.definitions.specs.Events.{eventIn, bytesConditions, Named, none, one, every, customerNamed, securityNamed}
-use Rattle.definitions.specs.Desks.{sessionRow, cancelledRow, matchedRow, changed, ordered}
+use Rattle.definitions.specs.Desks.{sessionRow, cancelledRow, matchedRow, restRow, changed, ordered}
 use Rattle.definitions.specs.Rules.{View, verdictOf}
 use Rattle.definitions.specs.Refusals.{eventConditions}
 
@@ -60,7 +60,7 @@ numberOf every = 0
 abbrev pub viewOf : List ℕ → Event → View
 viewOf w e = viewAt w (numberOf (securityNamed e)) (numberOf (customerNamed e))
 
--- 8: "a record that this kind reads is not sound: 2 reads all; 3 and 4 the security; 5 the security and the desk; 6 and 7 the desk": what it names
+-- 8: "a record that this kind reads is not sound: 2 reads all; 3 and 4 the security; 5 the security and the desk; 6 and 7 the desk", and so 8: what it names
 abbrev pub soundSecurityAt : List ℕ → ℕ → Bool
 soundSecurityAt w s = soundSecurity (securityAt w s)
 
@@ -115,7 +115,7 @@ unfoldable pub sessionMarket : ℕ → List ℕ → List ℕ
 sessionMarket session w = each (headerOf w .securities) (changeSecurity withoutProjected) (put w sessionPlace (session ∷ []))
 
 -- "A session that differs from the present one removes all ATO and ATC rows and makes every projected price absent; the same session changes
--- nothing."
+-- nothing." Rows of type 3 go as ATO rows do (paper 02, 1).
 unfoldable pub afterSession : ℕ → List ℕ → List ℕ
 afterSession session w =
     cond (eqb session (headerOf w .session)) w (each (headerOf w .customers) (changeDesk (changed sessionRow)) (sessionMarket session w))
@@ -136,6 +136,7 @@ perform w (event.Prices x) = done answer.Ok (changeSecurity (afterPrices x) (x .
 perform w (event.Order k x) = done (answer.Verdict (verdictAt w k x)) (putDesk w k (orderedAt w k x))
 perform w (event.Cancel k x) = done answer.Ok (changeDesk (changed (cancelledRow (x .number) (headerOf w .clock))) k w)
 perform w (event.Match k x) = done answer.Ok (changeDesk (changed (matchedRow (x .number) (x .volume))) k w)
+perform w (event.Rest k x) = done answer.Ok (changeDesk (changed (restRow (x .number) (x .price))) k w)
 
 abbrev pub refusedOr : ℕ → Outcome → Outcome
 refusedOr n o = cond (eqb n 0) o (refused n)

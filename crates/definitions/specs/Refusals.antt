@@ -4,6 +4,7 @@ use mathlib.Core.Bool.{Bool, false, _&&_, _||_, not}
 use mathlib.Core.List.{List, [], _∷_, _++_}
 use Prim.Native.Nat.{ℕ}
 use lib.Dec.{leb, ltb, eqb}
+use Rattle.ladder.specs.Ladder.{legal}
 use Rattle.definitions.specs.declared.Header.{Header}
 use Rattle.definitions.specs.declared.Row.{Row}
 use Rattle.definitions.specs.declared.Order.{Order}
@@ -14,7 +15,7 @@ use Rattle.definitions.specs.Codes.{preClose, foreignBoard, sell, mp, dm
 use Rattle.definitions.specs.Lists.{any, count}
 use Rattle.definitions.specs.Sound.{soundTerms, soundPrior, soundPrices, pricedAs}
 use Rattle.definitions.specs.Events.{Named, none, one, every, customerNamed, securityNamed}
-use Rattle.definitions.specs.Desks.{openOrInMinute, openWith, takesRow}
+use Rattle.definitions.specs.Desks.{openOrInMinute, openWith, openMpWith, takesRow}
 use Rattle.definitions.specs.Rules.{View, verdictOf}
 
 -- 4: "customer at least C, or security at least S"
@@ -32,7 +33,7 @@ badCode o =
     ltb foreignBoard (o .board) || ltb sell (o .side) || ltb mp (o .«order_type») || ltb dma (o .channel) || eqb (o .number) 0
 
 -- 5, and of other kinds; 6: "market price or prior close neither absent nor on the ladder; IPO over 10,000,000; limit off the ladder; price not 0 for
--- another type"; 7: "earlier than the state's"
+-- another type"; 7: "earlier than the state's". Paper 02, 1, of kind 8: "a price off the ladder 6"
 abbrev pub fieldConditions : Header → Event → List (ℕ × Bool)
 fieldConditions h (event.Clock t) = (5, ltb lastTime t) ∷ (7, ltb t (h .clock)) ∷ []
 fieldConditions h (event.Session s) = (5, ltb preClose s) ∷ []
@@ -41,6 +42,7 @@ fieldConditions h (event.Prices x) = (5, ltb foreignBoard (x .board)) ∷ (6, no
 fieldConditions h (event.Order k x) = (5, badCode x) ∷ (6, not (pricedAs (x .«order_type») (x .price))) ∷ []
 fieldConditions h (event.Cancel k x) = (5, eqb (x .number) 0) ∷ []
 fieldConditions h (event.Match k x) = (5, eqb (x .number) 0) ∷ []
+fieldConditions h (event.Rest k x) = (5, eqb (x .number) 0) ∷ (6, not (legal (x .price))) ∷ []
 
 -- 9: "order number equal to that of an open row or a row cancelled at most 60,000 ms ago"
 abbrev pub holdsNumber : ℕ → ℕ → Row → Bool
@@ -53,6 +55,10 @@ numberTaken v o = any (holdsNumber (v .market .clock) (o .number)) (v .desk .row
 abbrev pub noOpenRow : View → ℕ → Bool
 noOpenRow v number = not (any (openWith number) (v .desk .rows))
 
+-- paper 02, 1, of kind 8: "without such a row it gets refusal 10"
+abbrev pub noOpenMpRow : View → ℕ → Bool
+noOpenMpRow v number = not (any (openMpWith number) (v .desk .rows))
+
 -- 11: "match volume 0 or above the row's"
 abbrev pub openBelow : ℕ → ℕ → Row → Bool
 openBelow number volume r = openWith number r && ltb (r .volume) volume
@@ -60,10 +66,10 @@ openBelow number volume r = openWith number r && ltb (r .volume) volume
 abbrev pub badVolume : View → Match → Bool
 badVolume v x = eqb (x .volume) 0 || any (openBelow (x .number) (x .volume)) (v .desk .rows)
 
--- 12: "order, not MP, whose verdict is accept or warn, while open rows and rows cancelled at most 60,000 ms ago are 32"
+-- 12: "order, .., whose verdict is accept or warn, while open rows and rows cancelled at most 60,000 ms ago are 32"; paper 02, 1: an MP order too
 abbrev pub deskFull : View → Order → Bool
 deskFull v o =
-    takesRow (verdictOf v o) o && eqb (count (openOrInMinute (v .market .clock)) (v .desk .rows)) deskRows
+    takesRow (verdictOf v o) && eqb (count (openOrInMinute (v .market .clock)) (v .desk .rows)) deskRows
 
 abbrev pub laterConditions : View → Event → List (ℕ × Bool)
 laterConditions v (event.Clock t) = []
@@ -73,6 +79,7 @@ laterConditions v (event.Prices x) = []
 laterConditions v (event.Order k x) = (9, numberTaken v x) ∷ (12, deskFull v x) ∷ []
 laterConditions v (event.Cancel k x) = (10, noOpenRow v (x .number)) ∷ []
 laterConditions v (event.Match k x) = (10, noOpenRow v (x .number)) ∷ (11, badVolume v x) ∷ []
+laterConditions v (event.Rest k x) = (10, noOpenMpRow v (x .number)) ∷ []
 
 -- the table: "Checks run from top to bottom". The records' condition, 8, is the gate's alone.
 abbrev pub earlyConditions : Header → Event → List (ℕ × Bool)

@@ -11,7 +11,7 @@ use Rattle.definitions.specs.declared.Prices.{Prices}
 use Rattle.definitions.specs.declared.Security.{Security}
 use Rattle.definitions.specs.declared.Row.{Row}
 use Rattle.definitions.specs.declared.Desk.{Desk}
-use Rattle.definitions.specs.Codes.{freeMark, openMark, cancelledMark, foreignBoard, sell, atc, isLimit, maxVolume}
+use Rattle.definitions.specs.Codes.{freeMark, openMark, cancelledMark, foreignBoard, sell, mp, isLimit, maxVolume}
 use Rattle.definitions.specs.Lists.{any, all}
 use Rattle.definitions.specs.State.{rowWords}
 
@@ -39,7 +39,7 @@ marked r = not (eqb (r .mark) freeMark)
 abbrev pub allZero : Row → Bool
 allZero r = all (λ (n : ℕ). eqb n 0) (rowWords r)
 
--- "a ladder price for a limit and 0 for ATO and ATC"
+-- "a ladder price for a limit and 0 for ATO and ATC"; paper 02, 1: type 3 is "sound only with price 0"
 abbrev pub pricedAs : ℕ → ℕ → Bool
 pricedAs type price = isLimit type && legal price || not (isLimit type) && eqb price 0
 
@@ -57,7 +57,7 @@ soundMarked securities clock r =
     && ltb (r .security) securities
     && leb (r .board) foreignBoard
     && leb (r .side) sell
-    && leb (r .«order_type») atc
+    && leb (r .«order_type») mp
     && pricedAs (r .«order_type») (r .price)
     && leb 1 (r .volume)
     && leb (r .volume) maxVolume

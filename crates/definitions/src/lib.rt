@@ -65,8 +65,8 @@ pub struct MarketView {
     pub security: Security,
 }
 
-// Paper 01, "Events": a struct for each kind of more than one field. An order, a cancel and a match report stand beside the number of their customer,
-// so that what decides about an order is not given that number.
+// Paper 01, "Events": a struct for each kind of more than one field. A customer's event stands beside the number of its customer, so that what decides
+// about an order is not given that number.
 pub struct Setup {
     pub security: u32,
     pub terms: Terms,
@@ -99,6 +99,12 @@ pub struct Match {
     pub volume: u32,
 }
 
+// Paper 02, 1: the rest of an MP order, with the price at which it stays in the book as a limit.
+pub struct Rest {
+    pub number: u32,
+    pub price: u32,
+}
+
 pub enum Event {
     Clock(u32),
     Session(u32),
@@ -107,6 +113,7 @@ pub enum Event {
     Order(u32, Order),
     Cancel(u32, Cancel),
     Match(u32, Match),
+    Rest(u32, Rest),
 }
 
 // What reading an event's bytes gives: the event, or the number of the refusal.

@@ -3,10 +3,8 @@ ghost use mathlib.Core.Path.{_≡_};
 ghost use Rattle.definitions.specs.Desks.{counted, countedUp, counterOf, isRejected, takesRow};
 use definitions::Counter;
 use definitions::Desk;
-use definitions::Order;
 use definitions::Verdict;
 use definitions::codes::MAX_COUNT;
-use definitions::codes::MP;
 
 fn counter_of(v: Verdict) -> Counter
     ensures { λ r. ⌜ r ≡ counterOf v ⌝ }
@@ -23,11 +21,11 @@ fn counter_of(v: Verdict) -> Counter
     }
 }
 
-// "Accepted or warned, not MP"
-pub fn takes_row(v: Verdict, o: Order) -> bool
-    ensures { λ r. ⌜ r ≡ takesRow v o ⌝ }
+// "Accepted or warned"
+pub fn takes_row(v: Verdict) -> bool
+    ensures { λ r. ⌜ r ≡ takesRow v ⌝ }
 {
-    !is_rejected(counter_of(v)) & (o.order_type != MP)
+    !is_rejected(counter_of(v))
 }
 
 fn is_rejected(c: Counter) -> bool

@@ -1,7 +1,7 @@
-// Paper 01, "Events": what becomes of one row, and what is asked of one.
+// Paper 01, "Events", and paper 02, 1: what becomes of one row, and what is asked of one.
 ghost use mathlib.Core.Path.{_≡_};
 ghost use Rattle.definitions.specs.Codes.{isAuction};
-ghost use Rattle.definitions.specs.Desks.{cancelledInMinute, cancelledRow, expiredRow, freeRow, inMinute, matchedRow, openOrInMinute, openWith, rowOfOrder, sessionRow};
+ghost use Rattle.definitions.specs.Desks.{cancelledInMinute, cancelledRow, expiredRow, freeRow, inMinute, matchedRow, openOrInMinute, openWith, restRow, rowOfOrder, sessionRow};
 ghost use Rattle.definitions.specs.Refusals.{holdsNumber};
 use definitions::Order;
 use definitions::Row;
@@ -10,6 +10,7 @@ use definitions::codes::ATO;
 use definitions::codes::CANCELLED_MARK;
 use definitions::codes::LIMIT;
 use definitions::codes::MINUTE;
+use definitions::codes::MP;
 use definitions::codes::OPEN_MARK;
 
 pub fn free_row() -> Row
@@ -70,11 +71,11 @@ pub fn is_auction(order_type: u32) -> bool
     (order_type == ATO) | (order_type == ATC)
 }
 
-// "removes the desk's ATO and ATC rows"
+// "removes the desk's ATO and ATC rows"; "Cancel and session change treat type 3 as ATO"
 pub fn session_row(r: Row) -> Row
     ensures { λ s. ⌜ s ≡ sessionRow r ⌝ }
 {
-    if is_auction(r.order_type) {
+    if is_auction(r.order_type) | (r.order_type == MP) {
         return free_row();
     }
     r
@@ -91,7 +92,7 @@ pub fn expired_row(clock: u32, r: Row) -> Row
     r
 }
 
-// "marks an open limit row cancelled at the clock, or removes an ATO or ATC row"
+// "marks an open limit row cancelled at the clock, or removes an ATO or ATC row", and one of type 3
 pub fn cancelled_row(number: u32, clock: u32, r: Row) -> Row
     ensures { λ s. ⌜ s ≡ cancelledRow number clock r ⌝ }
 {
@@ -120,6 +121,22 @@ pub fn matched_row(number: u32, volume: u32, r: Row) -> Row
     let mut left = r;
     left.volume -= volume;
     left
+}
+
+// Paper 02, 1: "It makes an open type 3 row a limit at that ladder price"
+pub fn rest_row(number: u32, price: u32, r: Row) -> Row
+    ensures { λ s. ⌜ s ≡ restRow number price r ⌝ }
+{
+    if !open_with(number, r) {
+        return r;
+    }
+    if r.order_type != MP {
+        return r;
+    }
+    let mut limited = r;
+    limited.order_type = LIMIT;
+    limited.price = price;
+    limited
 }
 
 // "then the order stands last as an open row"

@@ -1,4 +1,4 @@
--- The laws of a desk: a loop that changes its rows, stated once over what becomes of one row, and when 32 rows are of a kind.
+-- The laws of a desk: the loops that change its rows, stated once over what becomes of one row, and when 32 rows are of a kind.
 -- Assumes nothing.
 use mathlib.Core.Bool.{Bool, true, false, cond, _||_, not}
 use mathlib.Core.List.{List, [], _∷_, _++_, map, map-append, append-nil}
@@ -6,8 +6,8 @@ use mathlib.Core.Path.{_≡_, refl, ap, sym, _∙_}
 use Prim.Native.Nat.{ℕ, suc, _+_, _-_, _≤_, _<_}
 use native.Mathlib.Omega.{arith}
 use lib.Dec.{eqb, eqb·suc-suc}
-use lib.ListN.{length, getD, take, set, replicate, length-map, length-append, length-replicate}
-use lib.Seq.{take-all, set-at, set-out, append-snoc}
+use lib.ListN.{length, getD, take, drop, set, replicate, length-map, length-append, length-replicate, drop-of-length-le}
+use lib.Seq.{take-all, length-take-le, set-at, set-out, append-snoc}
 use borrow.Author.Tests.{eq-eqb, ne-eqb}
 use Rattle.definitions.specs.declared.Row.{Row}
 use Rattle.definitions.specs.declared.Desk.{Desk}
@@ -16,7 +16,7 @@ use Rattle.definitions.specs.Codes.{deskRows, freeMark}
 use Rattle.definitions.specs.Lists.{any, keep, count}
 use Rattle.definitions.specs.Sound.{marked}
 use Rattle.definitions.specs.Desks.{freeRow, closeUp, edited, withRows, changed, addedLast, expiredRow, rowOfOrder, added}
-use Rattle.definitions.proofs.Lists.{take-next}
+use Rattle.definitions.proofs.Lists.{take-next, drop-next}
 use Rattle.definitions.proofs.Rows.{all-kept, length-keep, count-le, count-all, count-append, count-replicate}
 
 module _ {A : Type 0} (p : A → Bool) where
@@ -140,3 +140,29 @@ module _ (clock : ℕ) (o : Order) {d closed : Desk} {n i : ℕ} (c : Closing (e
 
   pub closing-full : deskRows ≤ n → closed ≡ added clock o d
   closing-full full = stays c full r ∙ closing-added
+
+-- A loop over the rows of d that changes each by f where it stands: i are passed.
+pub record Standing (f : Row → Row) (d limited : Desk) (i : ℕ) : Type 0 where
+  pub whole : length (d .rows) ≡ deskRows
+  pub desk : limited ≡ withRows (map f (take i (d .rows)) ++ drop i (d .rows)) d
+
+module _ {f : Row → Row} {d : Desk} where
+  pub standing-start : length (d .rows) ≡ deskRows → Standing f d d 0
+  standing-start whole = record { whole = whole; desk = refl }
+
+  module _ {limited : Desk} {i : ℕ} (c : Standing f d limited i) where
+    pub standing-next : i < deskRows → (z : Row) {r : Row} → r ≡ f (getD (d .rows) i z) → Standing f d (withRows (set (limited .rows) i r) limited) (i + 1)
+    standing-next h z {r} e =
+        let within : i < length (d .rows) = omega (arith, c .whole) in
+        let front = map f (take i (d .rows)) in
+        let rest = drop (i + 1) (d .rows) in
+        let sized : length front ≡ i = length-map (take i (d .rows)) f ∙ length-take-le i (d .rows) (omega arith) in
+        let before : limited .rows ≡ front ++ (getD (d .rows) i z ∷ rest) = ap (λ (x : Desk). x .rows) (c .desk) ∙ ap (λ l. front ++ l) (drop-next (d .rows) i z within) in
+        let passed : map f (take (i + 1) (d .rows)) ≡ front ++ (r ∷ []) = rw (take-next (d .rows) i z within, map-append, e) in
+        let after : set (limited .rows) i r ≡ map f (take (i + 1) (d .rows)) ++ rest = rw (before, passed, append-snoc front r rest) (set-at front (getD (d .rows) i z) rest r i sized) in
+        record { whole = c .whole; desk = ap (λ (x : Desk). withRows (set (limited .rows) i r) x) (c .desk) ∙ ap (λ rows. withRows rows d) after }
+
+    pub standing-end : deskRows ≤ i → limited ≡ withRows (map f (d .rows)) d
+    standing-end h =
+        let past : length (d .rows) ≤ i = omega (arith, c .whole) in
+        c .desk ∙ rw (take-all i (d .rows) past, drop-of-length-le (d .rows) past, append-nil)

@@ -1,10 +1,11 @@
-// Paper 01, "Events" and "The lone run": how a desk changes, and what conditions 9 to 12 ask of it.
+// Paper 01, "Events" and "The lone run", and paper 02, 1: how a desk changes, and what conditions 9 to 12 ask of it.
 ghost use mathlib.Core.Bool.{false};
+ghost use mathlib.Core.List.{map};
 ghost use mathlib.Core.Path.{_≡_};
 ghost use lib.Dec.{eqb};
 ghost use lib.ListN.{replicate};
 ghost use Rattle.definitions.specs.Codes.{deskRows};
-ghost use Rattle.definitions.specs.Desks.{added, cancelledRow, changed, desk, freeRow, matchedRow, openOrInMinute, openWith, sessionRow};
+ghost use Rattle.definitions.specs.Desks.{added, cancelledRow, changed, desk, freeRow, matchedRow, openMpWith, openOrInMinute, openWith, restRow, sessionRow, withRows};
 ghost use Rattle.definitions.specs.Refusals.{holdsNumber, openBelow};
 ghost use Rattle.definitions.specs.Lists.{any, count};
 ghost use Rattle.desks.specs.Wanted.{isWanted, wanted};
@@ -12,6 +13,7 @@ use definitions::Desk;
 use definitions::Order;
 use definitions::Row;
 use definitions::codes::DESK_ROWS;
+use definitions::codes::MP;
 use definitions::codes::OPEN_MARK;
 use desk_rows::cancelled_row;
 use desk_rows::expired_row;
@@ -19,10 +21,11 @@ use desk_rows::free_row;
 use desk_rows::holds_number;
 use desk_rows::matched_row;
 use desk_rows::open_or_in_minute;
+use desk_rows::rest_row;
 use desk_rows::row_of_order;
 use desk_rows::session_row;
 
-// "removes the desk's ATO and ATC rows"
+// "removes the desk's ATO and ATC rows", and those of type 3
 pub fn session_changed(d: Desk) -> Desk
     ensures { λ r. ⌜ r ≡ changed sessionRow d ⌝ }
 {
@@ -40,7 +43,7 @@ pub fn session_changed(d: Desk) -> Desk
     closed
 }
 
-// "marks an open limit row cancelled at the clock, or removes an ATO or ATC row"
+// "marks an open limit row cancelled at the clock, or removes an ATO or ATC row", and one of type 3
 pub fn cancelled(number: u32, clock: u32, d: Desk) -> Desk
     ensures { λ r. ⌜ r ≡ changed (cancelledRow number clock) d ⌝ }
 {
@@ -76,6 +79,19 @@ pub fn matched(number: u32, volume: u32, d: Desk) -> Desk
     closed
 }
 
+// Paper 02, 1: "It makes an open type 3 row a limit at that ladder price". No row goes, so none closes up.
+pub fn rest_limited(number: u32, price: u32, d: Desk) -> Desk
+    ensures { λ r. ⌜ r ≡ withRows (map (restRow number price) (d .rows)) d ⌝ }
+{
+    let mut limited = d;
+    let mut i: usize = 0;
+    while i < DESK_ROWS {
+        limited.rows[i] = rest_row(number, price, d.rows[i]);
+        i += 1;
+    }
+    limited
+}
+
 // "rows cancelled more than 60,000 ms ago go, then the order stands last as an open row"
 pub fn added(clock: u32, o: Order, d: Desk) -> Desk
     ensures { λ r. ⌜ r ≡ added clock o d ⌝ }
@@ -100,7 +116,8 @@ pub fn added(clock: u32, o: Order, d: Desk) -> Desk
     closed
 }
 
-// The row that 9, 10 and 11 look for: an open one with the number; or also one cancelled at most 60,000 ms ago; or only an open one with less than the volume.
+// The row that 9, 10 and 11 look for: an open one with the number; or also one cancelled at most 60,000 ms ago; or only an open one with less than the volume,
+// or of type 3.
 // By flags that is_wanted joins without a branch: a loop that branches on what is looked for is not compiled into its callers, and each call copies the desk.
 struct Wanted {
     number: u32,
@@ -108,10 +125,11 @@ struct Wanted {
     clock: u32,
     only_below: bool,
     volume: u32,
+    only_mp: bool,
 }
 
 fn wanted_open(number: u32) -> Wanted
-    ensures { λ w. ⌜ w ≡ wanted number false 0 false 0 ⌝ }
+    ensures { λ w. ⌜ w ≡ wanted number false 0 false 0 false ⌝ }
 {
     Wanted {
         number: number,
@@ -119,6 +137,7 @@ fn wanted_open(number: u32) -> Wanted
         clock: 0,
         only_below: false,
         volume: 0,
+        only_mp: false,
     }
 }
 
@@ -127,7 +146,11 @@ fn is_wanted(w: Wanted, r: Row) -> bool
 {
     // An open row holds its number at any clock.
     let held = holds_number(w.clock, w.number, r);
-    held & (w.or_in_minute | ((r.mark == OPEN_MARK) & (!w.only_below | (r.volume < w.volume))))
+    held
+        & (w.or_in_minute
+            | ((r.mark == OPEN_MARK)
+                & (!w.only_below | (r.volume < w.volume))
+                & (!w.only_mp | (r.order_type == MP))))
 }
 
 fn found(w: Wanted, d: Desk) -> bool
@@ -158,6 +181,15 @@ pub fn number_open(number: u32, d: Desk) -> bool
     ensures { λ r. ⌜ r ≡ any (openWith number) (d .rows) ⌝ }
 {
     found(wanted_open(number), d)
+}
+
+// 10, of kind 8: "without such a row", an open one of type 3, where this is false
+pub fn mp_open(number: u32, d: Desk) -> bool
+    ensures { λ r. ⌜ r ≡ any (openMpWith number) (d .rows) ⌝ }
+{
+    let mut w = wanted_open(number);
+    w.only_mp = true;
+    found(w, d)
 }
 
 // 11: "match volume .. above the row's"

@@ -2,7 +2,7 @@
 ghost use mathlib.Core.Path.{_≡_};
 ghost use Prim.Native.Nat.{_+_, _*_, _≤_, _<_};
 ghost use lib.ListN.{length, getD};
-ghost use Rattle.definitions.specs.Events.{two, four, lengthOf, clockOf, sessionOf, setupOf, pricesOf, orderOf, cancelOf, matchOf, eventOf};
+ghost use Rattle.definitions.specs.Events.{two, four, lengthOf, clockOf, sessionOf, setupOf, pricesOf, orderOf, cancelOf, matchOf, restOf, eventOf};
 ghost use Rattle.events.specs.Readings.{readEvent};
 use definitions::BoardPrices;
 use definitions::Cancel;
@@ -12,6 +12,7 @@ use definitions::Order;
 use definitions::Prices;
 use definitions::PriorPrices;
 use definitions::Reading;
+use definitions::Rest;
 use definitions::Setup;
 use definitions::Terms;
 
@@ -45,6 +46,7 @@ pub fn length_of(kind: u8) -> usize
         5 => 21,
         6 => 7,
         7 => 11,
+        8 => 11,
         _ => 0,
     }
 }
@@ -61,7 +63,8 @@ fn event_of(kind: u8, bytes: &[u8]) -> Event
         4 => prices_of(bytes),
         5 => order_of(bytes),
         6 => cancel_of(bytes),
-        _ => match_of(bytes),
+        7 => match_of(bytes),
+        _ => rest_of(bytes),
     }
 }
 
@@ -153,6 +156,19 @@ fn match_of(bytes: &[u8]) -> Event
         Match {
             number: four_at(bytes, 3),
             volume: four_at(bytes, 7),
+        },
+    )
+}
+
+fn rest_of(bytes: &[u8]) -> Event
+    requires { ⌜ length (now bytes) ≡ 11 ⌝ }
+    ensures { λ r. ⌜ r ≡ restOf (now (bytes .entry)) ⌝ }
+{
+    Event::Rest(
+        two_at(bytes, 1),
+        Rest {
+            number: four_at(bytes, 3),
+            price: four_at(bytes, 7),
         },
     )
 }

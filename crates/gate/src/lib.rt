@@ -60,6 +60,7 @@ fn apply(words: &mut [u32], event: Event) -> Answer
         Event::Order(k, x) => kind_order::handle(words, k, x),
         Event::Cancel(k, x) => kind_cancel::handle(words, k, x),
         Event::Match(k, x) => kind_match::handle(words, k, x),
+        Event::Rest(k, x) => kind_rest::handle(words, k, x),
     }
 }
 

@@ -4,6 +4,7 @@ use mathlib.Core.List.{List}
 use mathlib.Core.Path.{_≡_, ap, sym, _∙_}
 use Prim.Native.Nat.{ℕ}
 use Rattle.definitions.specs.declared.Security.{Security}
+use Rattle.definitions.specs.declared.Row.{Row}
 use Rattle.definitions.specs.declared.Desk.{Desk}
 use Rattle.definitions.specs.declared.Event.{Event}
 use Rattle.definitions.specs.declared.Answer.{Answer}
@@ -14,8 +15,6 @@ use Rattle.kind_contract.specs.First.{laterRefusal, laterOutcome}
 use Rattle.kind_contract.proofs.Laws.{later-done}
 use mathlib.Core.Bool.{Bool}
 use Rattle.definitions.specs.Lists.{any}
-use Rattle.definitions.specs.Desks.{openWith}
-use Rattle.definitions.specs.Refusals.{openBelow}
 
 -- an answer and the words after it
 abbrev pub Left : Type 0
@@ -36,9 +35,5 @@ module _ (w : List ℕ) (e : Event) (none : laterRefusal w e ≡ 0) where
   desk-done f k a does ed ey ev = words-done a does (ev ∙ ap (putDesk w k) (ey ∙ ap f ed))
 
 -- what a row's question says of the desk in the words, asked of the desk that was taken out
-module _ (w : List ℕ) (k number : ℕ) {d : Desk} {t : Bool} where
-  pub row-open : d ≡ deskAt w k → t ≡ any (openWith number) (d .rows) → any (openWith number) (deskAt w k .rows) ≡ t
-  row-open ed et = sym (et ∙ ap (λ (y : Desk). any (openWith number) (y .rows)) ed)
-
-  pub row-short : (volume : ℕ) → d ≡ deskAt w k → t ≡ any (openBelow number volume) (d .rows) → any (openBelow number volume) (deskAt w k .rows) ≡ t
-  row-short volume ed et = sym (et ∙ ap (λ (y : Desk). any (openBelow number volume) (y .rows)) ed)
+pub row-found : (w : List ℕ) (k : ℕ) (p : Row → Bool) {d : Desk} {t : Bool} → d ≡ deskAt w k → t ≡ any p (d .rows) → any p (deskAt w k .rows) ≡ t
+row-found w k p ed et = sym (et ∙ ap (λ (y : Desk). any p (y .rows)) ed)

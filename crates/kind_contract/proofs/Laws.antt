@@ -15,13 +15,13 @@ use Rattle.definitions.specs.Events.{one, customerNamed, securityNamed}
 use Rattle.definitions.specs.Refusals.{beyond, badName, earlyConditions, laterConditions}
 use Rattle.definitions.specs.Gate.{refused, resultOf, recordsSound, viewOf, perform, refusedOr}
 use Rattle.definitions.proofs.Tests.{or-parts}
-use Rattle.definitions.proofs.Table.{Numbered, unmet, first-append, numbered-first}
+use Rattle.definitions.proofs.Table.{Numbered, met, unmet, first-append, numbered-first}
 use Rattle.definitions.proofs.Passed.{table, numbered-table}
 use Rattle.kind_contract.specs.First.{eventOutcome, firstRefusal, Ready, laterRefusal, laterOutcome}
 use Rattle.state.proofs.Fits.{fits-header, fits-security, fits-desk}
 use lib.ListN.{length}
 
-abbrev first : List ℕ → Event → List (ℕ × Bool)
+abbrev pub first : List ℕ → Event → List (ℕ × Bool)
 first w e = earlyConditions (headerOf w) e ++ ((8, not (recordsSound w e)) ∷ [])
 
 abbrev later : List ℕ → Event → List (ℕ × Bool)
@@ -61,9 +61,13 @@ module _ (w : List ℕ) (e : Event) where
 
   -- the words have what a kind's function takes out of them, and what an event names is there
   module _ (ready : Ready w e) where
-    named : badName (headerOf w) e ≡ false
+    -- each of the conditions 4 to 8, by its number
+    pub unmet-first : (n : ℕ) → met n (first w e) ≡ false
     unfolding firstRefusal
-    named = unmet 4 (first w e) numbered (ready .passed)
+    unmet-first n = unmet n (first w e) numbered (ready .passed)
+
+    named : badName (headerOf w) e ≡ false
+    named = unmet-first 4
 
     parts : (beyond (headerOf w .customers) (customerNamed e) ≡ false) × (beyond (headerOf w .securities) (securityNamed e) ≡ false)
     parts = or-parts (beyond (headerOf w .customers) (customerNamed e)) (beyond (headerOf w .securities) (securityNamed e)) named

@@ -57,11 +57,11 @@ module _ (w : List ℕ) (k : ℕ) (o : Order) {h : Header} {s : Security} {d : D
 
   -- past condition 9, with a verdict
   module _ {t : Bool} (et : t ≡ any (holdsNumber (h .clock) (o .number)) (d .rows)) (free : t ≡ false) {v : Verdict} (ev : v ≡ verdictOf (viewBy h s d) o)
-      {r : Bool} (er : r ≡ takesRow v o) where
+      {r : Bool} (er : r ≡ takesRow v) where
     full-same : (f : Bool) → f ≡ eqb (count (openOrInMinute (h .clock)) (d .rows)) deskRows → deskFull (viewAt w (o .security) k) o ≡ (r && f)
     full-same f ef =
         ap (λ (x : View). deskFull x o) (sym view-same)
-        ∙ ap (λ (x : Verdict). takesRow x o && eqb (count (openOrInMinute (h .clock)) (d .rows)) deskRows) (sym ev)
+        ∙ ap (λ (x : Verdict). takesRow x && eqb (count (openOrInMinute (h .clock)) (d .rows)) deskRows) (sym ev)
         ∙ ap₂ (λ (a b : Bool). a && b) (sym er) (sym ef)
 
     done : laterRefusal w e ≡ 0 → {y : Desk} {after : List ℕ} → y ≡ ordered v (h .clock) o d → after ≡ putDesk w k y → _≡_ {A = Left} (answer.Verdict v, after) (resultOf w (laterOutcome w e))

@@ -23,7 +23,7 @@ pub fn handle(words: &mut [u32], k: u32, o: Order) -> Answer
         return Answer::Refused(9);
     }
     let v = rules::verdict(m, d, o);
-    if !desk_counters::takes_row(v, o) {
+    if !desk_counters::takes_row(v) {
         state_records::put_desk(words, k, desk_counters::counted(v, d));
         return Answer::Verdict(v);
     }

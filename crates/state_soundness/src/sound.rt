@@ -6,11 +6,11 @@ ghost use Rattle.definitions.specs.Gate.{soundSecurityAt};
 ghost use Rattle.definitions.specs.Sound.{pricedAs, openOrCancelled, soundMarked};
 ghost use Rattle.definitions.specs.State.{securitySize, securityPlace};
 use definitions::Row;
-use definitions::codes::ATC;
 use definitions::codes::CANCELLED_MARK;
 use definitions::codes::FOREIGN_BOARD;
 use definitions::codes::LIMIT;
 use definitions::codes::MAX_VOLUME;
+use definitions::codes::MP;
 use definitions::codes::OPEN_MARK;
 use definitions::codes::SELL;
 use ladder::Ladder;
@@ -46,7 +46,7 @@ pub fn sound_marked(securities: u32, clock: u32, r: Row) -> bool
         & (r.security < securities)
         & (r.board <= FOREIGN_BOARD)
         & (r.side <= SELL)
-        & (r.order_type <= ATC)
+        & (r.order_type <= MP)
         & priced_as(r.order_type, r.price)
         & (1 <= r.volume)
         & (r.volume <= MAX_VOLUME)

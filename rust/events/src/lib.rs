@@ -10,6 +10,7 @@
 //! order 0 no 5 security 0 foreign sell atc x 100 dma
 //! cancel 0 no 1
 //! match 0 no 5 x 100
+//! rest 0 no 6 at 50.25
 //! ```
 //!
 //! - `clock`: hours, minutes and seconds; the milliseconds may be left out.
@@ -22,17 +23,17 @@
 //! - `order`, with the customer: `no` and the order number; `security`; the
 //!   board; `buy` or `sell`; `limit` and a price, or `ato`, `atc` or `mp`;
 //!   `x` and the volume; the channel, `front`, `online` or `dma`.
-//! - `cancel` and `match`, with the customer: `no` and the order number; for a
-//!   match `x` and the volume.
+//! - `cancel`, `match` and `rest`, with the customer: `no` and the order number;
+//!   for a match `x` and the volume, for a rest `at` and the price.
 //!
 //! Prices are in baht with two decimals, and `-` is an absent one.
 //!
 //! What the gate would turn back can be written too. A code outside its list
 //! is a number: `session 7`, `free 2`, `first-day 2`, `board 9`, `side 2`,
 //! `type 4`, `channel 3`. A price may follow every type of order, and a limit
-//! may have the price `-`. So every event of a known kind and a whole length
-//! has a line, and the line gives its bytes back. Last, `bytes 09 ff` stands
-//! for those bytes as they are, an unknown kind or a part of an event.
+//! and a rest may have the price `-`. So every event of a known kind and a whole
+//! length has a line, and the line gives its bytes back. Last, `bytes 09 ff`
+//! stands for those bytes as they are, an unknown kind or a part of an event.
 
 #![forbid(unsafe_code)]
 

@@ -27,6 +27,9 @@ const BAD_LINES: &[(&str, &str)] = &[
     ("setup 0 free lot 100", r#""free": expected lot"#),
     ("order 0 no 1 security 0 main buy ato 100 online", r#""100": expected x"#),
     ("order 0 no 1 security 0 main buy mp 50.00 100 online", r#""100": expected x"#),
+    ("rest 0 5 at 50.25", r#""5": expected no"#),
+    ("rest 0 no 5 50.25", r#""50.25": expected at"#),
+    ("rest 0 no 5 x 100", r#""x": expected at"#),
     // where the line ends
     ("clock", "the line ends: expected a time, as 09:55:00.000"),
     ("session", "the line ends: expected closed, pre-open, open, break or pre-close"),
@@ -42,6 +45,11 @@ const BAD_LINES: &[(&str, &str)] = &[
     ("cancel 0 no", "the line ends: expected an order number, 0 to 4294967295"),
     ("match 0 no 1", "the line ends: expected x"),
     ("match 0 no 1 x", "the line ends: expected a volume, 0 to 4294967295"),
+    ("rest", "the line ends: expected a customer, 0 to 65535"),
+    ("rest 0", "the line ends: expected no"),
+    ("rest 0 no", "the line ends: expected an order number, 0 to 4294967295"),
+    ("rest 0 no 5", "the line ends: expected at"),
+    ("rest 0 no 5 at", "the line ends: expected a price in baht, as 50.25"),
     ("order 0 no 1 security 0 main", "the line ends: expected buy or sell"),
     ("order 0 no 1 security 0 main buy", "the line ends: expected limit, ato, atc or mp"),
     ("order 0 no 1 security 0 main buy ato", "the line ends: expected x"),
@@ -55,6 +63,9 @@ const BAD_LINES: &[(&str, &str)] = &[
     ("prices 0 main last -1.00", r#""-1.00": expected a price in baht, as 50.25"#),
     ("prices 0 main last +1.00", r#""+1.00": expected a price in baht, as 50.25"#),
     ("prices 0 main last 42949672.96", r#""42949672.96": expected a price in baht, as 50.25"#),
+    ("rest 0 no 5 at 50", r#""50": expected a price in baht, as 50.25"#),
+    ("rest 0 no 5 at mp", r#""mp": expected a price in baht, as 50.25"#),
+    ("rest 0 no 5 at 42949672.96", r#""42949672.96": expected a price in baht, as 50.25"#),
     // times
     ("clock 9:55:00", r#""9:55:00": expected a time, as 09:55:00.000"#),
     ("clock 09:55", r#""09:55": expected a time, as 09:55:00.000"#),
@@ -68,6 +79,8 @@ const BAD_LINES: &[(&str, &str)] = &[
     ("cancel 65536 no 1", r#""65536": expected a customer, 0 to 65535"#),
     ("cancel 0 no +1", r#""+1": expected an order number, 0 to 4294967295"#),
     ("cancel 0 no 4294967296", r#""4294967296": expected an order number, 0 to 4294967295"#),
+    ("rest 65536 no 5 at 50.25", r#""65536": expected a customer, 0 to 65535"#),
+    ("rest 0 no 4294967296 at 50.25", r#""4294967296": expected an order number, 0 to 4294967295"#),
     ("setup 0 lot 256", r#""256": expected a lot, 0 to 255"#),
     ("setup 0 lot 1 free 256", r#""256": expected a number, 0 to 255"#),
     ("session 256", r#""256": expected a number, 0 to 255"#),
@@ -75,6 +88,7 @@ const BAD_LINES: &[(&str, &str)] = &[
     // past the end
     ("cancel 0 no 1 2", r#""2": expected the end of the line"#),
     ("session open now", r#""now": expected the end of the line"#),
+    ("rest 0 no 5 at 50.25 x 100", r#""x": expected the end of the line"#),
     // bytes
     ("bytes 9", r#""9": expected a byte, as 0f"#),
     ("bytes 0g", r#""0g": expected a byte, as 0f"#),
@@ -109,7 +123,7 @@ fn no_text() {
 
 #[test]
 fn broken_events() {
-    let table: [(&[u8], &str); 6] = [
+    let table: [(&[u8], &str); 8] = [
         (&[0], "byte 0: kind 0 is unknown"),
         (&[2, 2, 9, 0], "byte 2: kind 9 is unknown"),
         (
@@ -127,6 +141,14 @@ fn broken_events() {
         (
             &[6, 0, 0, 1, 0, 0, 0, 7, 0],
             "byte 7: an event of kind 7 takes 11 bytes, and 2 are left",
+        ),
+        (
+            &[2, 2, 8, 0],
+            "byte 2: an event of kind 8 takes 11 bytes, and 2 are left",
+        ),
+        (
+            &[8; 10],
+            "byte 0: an event of kind 8 takes 11 bytes, and 10 are left",
         ),
     ];
     for (bytes, message) in table {

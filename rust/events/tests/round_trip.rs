@@ -36,6 +36,10 @@ cancel 0 no 1
 cancel 65535 no 4294967295
 match 0 no 1 x 100
 match 65535 no 0 x 4294967295
+rest 0 no 5 at 50.25
+rest 0 no 1 at -
+rest 65535 no 4294967295 at 42949672.95
+rest 255 no 0 at 0.01
 ";
 
 #[test]
@@ -98,6 +102,22 @@ fn lines_mean_what_they_say() {
                 volume: 100,
             },
         ),
+        (
+            "rest 3 no 5 at 50.25",
+            Event::Rest {
+                customer: 3,
+                number: 5,
+                price: 50_25,
+            },
+        ),
+        (
+            "rest 3 no 5 at -",
+            Event::Rest {
+                customer: 3,
+                number: 5,
+                price: 0,
+            },
+        ),
     ];
     for (text, event) in table {
         assert_eq!(encode(text).unwrap(), bytes_of::event(&event), "{text}");
@@ -144,8 +164,11 @@ fn bytes_as_they_are() {
 /// What cannot be read takes all that is left.
 #[test]
 fn where_events_end() {
-    let table: [(&[u8], &[&[u8]]); 4] = [
+    let rest = [8, 0, 0, 5, 0, 0, 0, 161, 19, 0, 0];
+    let then_open = [&rest[..], &[2, 2]].concat();
+    let table: [(&[u8], &[&[u8]]); 5] = [
         (&[], &[]),
+        (&then_open, &[&rest, &[2, 2]]),
         (&[2, 2, 2, 1], &[&[2, 2], &[2, 1]]),
         (&[2, 2, 2], &[&[2, 2], &[2]]),
         (&[2, 2, 31, 2, 2], &[&[2, 2], &[31, 2, 2]]),
@@ -161,7 +184,7 @@ fn every_whole_event_has_a_line() {
     for round in 0..20_000 {
         let mut bytes = Vec::new();
         for _ in 0..8 {
-            let kind = 1 + (random.next() % 7) as u8;
+            let kind = 1 + (random.next() % 8) as u8;
             bytes.push(kind);
             for _ in 1..length(kind).unwrap() {
                 // Small bytes, for the codes that have words.
@@ -178,7 +201,7 @@ fn every_whole_event_has_a_line() {
 /// Every value of every byte of every kind, the others 0 or 1.
 #[test]
 fn every_byte_of_every_event() {
-    for kind in 1..=7 {
+    for kind in 1..=8 {
         for place in 1..length(kind).unwrap() {
             for (value, others) in (0..=255).flat_map(|value| [(value, 0), (value, 1)]) {
                 let mut bytes = vec![others; length(kind).unwrap()];

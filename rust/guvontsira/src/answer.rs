@@ -22,7 +22,7 @@ pub enum Rule {
 /// The answer to one event. `Display` gives the words of the day listing.
 #[derive(Clone, Copy, Debug, PartialEq, Eq, Hash)]
 pub enum Answer {
-    /// A market event, a cancel or a match was carried out.
+    /// A market event, a cancel, a match or a rest was carried out.
     Ok,
     /// The order may go out.
     Accept,

@@ -34,7 +34,10 @@ codes!(
 codes!(Board { Main = 0, Foreign = 1 });
 codes!(Side { Buy = 0, Sell = 1 });
 codes!(
-    /// The type of an order. `Mp`, market price, never has a row.
+    /// The type of an order. `Mp` is market price: its row has no price until
+    /// an [`Event::Rest`] makes it a limit.
+    ///
+    /// [`Event::Rest`]: crate::Event::Rest
     OrderType { Limit = 0, Ato = 1, Atc = 2, Mp = 3 }
 );
 codes!(

@@ -12,9 +12,8 @@ pub struct Row {
     pub security: u32,
     pub board: Board,
     pub side: Side,
-    /// Never `Mp`.
     pub order_type: OrderType,
-    /// In satang; 0 for ATO and ATC.
+    /// In satang; 0 unless a limit.
     pub price: u32,
     pub volume: u32,
     /// Midnight while the row is open.
@@ -68,7 +67,7 @@ impl Row {
             security,
             board: Board::from_code(board)?,
             side: Side::from_code(side)?,
-            order_type: OrderType::from_code(order_type).filter(|&code| code != OrderType::Mp)?,
+            order_type: OrderType::from_code(order_type)?,
             price,
             volume,
             cancel_time: Time {

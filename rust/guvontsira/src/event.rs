@@ -68,6 +68,13 @@ pub enum Event {
         number: u32,
         volume: u32,
     },
+    /// What is left of an MP order stands in the book as a limit: one step past
+    /// the last match, as the exchange says.
+    Rest {
+        customer: u16,
+        number: u32,
+        price: u32,
+    },
 }
 
 /// The bytes of an event, kept on the stack.
@@ -180,6 +187,11 @@ impl Event {
                 number,
                 volume,
             } => Bytes::of_kind(7).two(customer).four(number).four(volume),
+            Event::Rest {
+                customer,
+                number,
+                price,
+            } => Bytes::of_kind(8).two(customer).four(number).four(price),
         }
     }
 }

@@ -53,6 +53,17 @@ fn none_for_an_event_that_is_sent() {
         price: 50_00,
         volume: 100,
     };
+    let market_price = Event::Order {
+        customer: 0,
+        number: 2,
+        security: 0,
+        board: Board::Main,
+        side: Side::Buy,
+        order_type: OrderType::Mp,
+        channel: Channel::Online,
+        price: 0,
+        volume: 100,
+    };
     let day = [
         Event::Clock { time: 1 },
         Event::Session {
@@ -89,6 +100,17 @@ fn none_for_an_event_that_is_sent() {
             customer: 0,
             number: 1,
         },
+        market_price,
+        Event::Rest {
+            customer: 0,
+            number: 2,
+            price: 50_50,
+        },
+        Event::Match {
+            customer: 0,
+            number: 2,
+            volume: 100,
+        },
     ];
     let expected = [
         Answer::Ok,
@@ -99,6 +121,9 @@ fn none_for_an_event_that_is_sent() {
         Answer::Ok,
         Answer::Ok,
         Answer::Refused(10),
+        Answer::Accept,
+        Answer::Ok,
+        Answer::Ok,
     ];
     let sent = least(|| {
         for (event, answer) in day.iter().zip(expected) {

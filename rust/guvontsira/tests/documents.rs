@@ -172,13 +172,17 @@ fn a_full_desk() {
         day += &format!("order 0 no {number} security 0 main buy limit 50.00 x 100 front\n");
     }
     let last = |line: &str| *answers(&(day.clone() + line)).last().unwrap();
-    let order = |rest: &str| last(&format!("order {rest}"));
+    let order = |words: &str| last(&format!("order {words}"));
     assert_eq!(
         order("0 no 33 security 0 main buy limit 50.00 x 100 front"),
         Answer::Refused(12)
     );
     assert_eq!(
         order("0 no 33 security 0 main buy mp x 100 front"),
+        Answer::Refused(12)
+    );
+    assert_eq!(
+        order("1 no 33 security 0 main buy mp x 100 front"),
         Answer::Accept
     );
     assert_eq!(
@@ -196,6 +200,30 @@ fn a_full_desk() {
     };
     assert_eq!(again("00:01:00.000"), Answer::Refused(12));
     assert_eq!(again("00:01:00.001"), Answer::Accept);
+}
+
+/// MP rows count for refusal 12 as others do, and no cancel of one is kept.
+#[test]
+fn a_desk_full_of_mp_rows() {
+    let mut day = String::from("session open\nprices 0 main offer 50.25\n");
+    for number in 1..=32 {
+        day += &format!("order 0 no {number} security 0 main buy mp x 100 front\n");
+    }
+    for kind in ["limit 50.00", "mp"] {
+        let after = |line: &str| {
+            let order = format!("order 0 no 33 security 0 main buy {kind} x 100 front");
+            *answers(&format!("{day}{line}\n{order}")).last().unwrap()
+        };
+        assert_eq!(after(""), Answer::Refused(12));
+        assert_eq!(after("match 0 no 1 x 50"), Answer::Refused(12));
+        assert_eq!(after("rest 0 no 1 at 50.50"), Answer::Refused(12));
+        assert_eq!(
+            after("rest 0 no 1 at 50.50\ncancel 0 no 1"),
+            Answer::Refused(12)
+        );
+        assert_eq!(after("cancel 0 no 1"), Answer::Accept);
+        assert_eq!(after("match 0 no 1 x 100"), Answer::Accept);
+    }
 }
 
 fn back(line: &str) -> String {

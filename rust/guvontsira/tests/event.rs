@@ -1,4 +1,5 @@
-//! The bytes of events: each kind's length and places as in paper 01, "Events".
+//! The bytes of events: each kind's length and places as in paper 01, "Events",
+//! and in paper 02 (rest).
 
 use guvontsira::{Answer, Board, Channel, Event, Mark, OrderType, Session, Side, State};
 
@@ -39,6 +40,11 @@ const MATCH: Event = Event::Match {
     number: 0x0605_0403,
     volume: 0x0a09_0807,
 };
+const REST: Event = Event::Rest {
+    customer: 0x0201,
+    number: 0x0605_0403,
+    price: 0x0a09_0807,
+};
 
 fn session(session: Session) -> Event {
     Event::Session { session }
@@ -46,7 +52,7 @@ fn session(session: Session) -> Event {
 
 #[test]
 fn places() {
-    let table: [(Event, usize, &[u8]); 7] = [
+    let table: [(Event, usize, &[u8]); 8] = [
         (CLOCK, 5, &[1, 1, 2, 3, 4]),
         (session(Session::PreClose), 2, &[2, 4]),
         (
@@ -70,6 +76,7 @@ fn places() {
         ),
         (CANCEL, 7, &[6, 1, 2, 3, 4, 5, 6]),
         (MATCH, 11, &[7, 1, 2, 3, 4, 5, 6, 7, 8, 9, 10]),
+        (REST, 11, &[8, 1, 2, 3, 4, 5, 6, 7, 8, 9, 10]),
     ];
     let mut all = Vec::new();
     for (event, length, bytes) in table {
@@ -171,6 +178,14 @@ fn as_the_text_form() {
                 customer: 3,
                 number: 5,
                 volume: 100,
+            },
+        ),
+        (
+            "rest 3 no 70000 at 50.25",
+            Event::Rest {
+                customer: 3,
+                number: 70_000,
+                price: 50_25,
             },
         ),
     ];

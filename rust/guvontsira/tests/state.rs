@@ -107,6 +107,54 @@ cancel 1 no 7
     assert_eq!(state.desk(u32::MAX), None);
 }
 
+/// Request 1 of paper 02: an MP order's row, and the limit that a rest makes it.
+#[test]
+fn what_is_left_of_an_mp_order() {
+    let mut state = State::new(2, 3).unwrap();
+    let entered = "\
+session open
+prices 2 foreign bid 49.75 offer 50.25
+order 1 no 6 security 2 foreign sell limit 52.00 x 100 online
+order 1 no 7 security 2 foreign buy mp x 300 dma
+order 1 no 8 security 2 main sell limit 52.00 x 100 online
+match 1 no 7 x 100
+";
+    let entered = answers(&mut state, entered);
+    assert_eq!(entered, ["ok", "ok", "accept", "accept", "accept", "ok"]);
+    let mp = Row {
+        mark: Mark::Open,
+        number: 7,
+        security: 2,
+        board: Board::Foreign,
+        side: Side::Buy,
+        order_type: OrderType::Mp,
+        price: 0,
+        volume: 200,
+        cancel_time: Time { milliseconds: 0 },
+    };
+    let before = state.desk(1).unwrap();
+    assert_eq!(before.rows[1], mp);
+
+    let rest = |number, price| Event::Rest {
+        customer: 1,
+        number,
+        price,
+    };
+    assert_eq!(state.send(&rest(7, 50_51)), Answer::Refused(6));
+    assert_eq!(state.send(&rest(7, 0)), Answer::Refused(6));
+    assert_eq!(state.send(&rest(6, 50_50)), Answer::Refused(10));
+    assert_eq!(state.desk(1), Some(before.clone()));
+    assert_eq!(state.send(&rest(7, 50_50)), Answer::Ok);
+    let mut after = before;
+    after.rows[1] = Row {
+        order_type: OrderType::Limit,
+        price: 50_50,
+        ..mp
+    };
+    assert_eq!(state.desk(1), Some(after));
+    assert_eq!(state.send(&rest(7, 50_75)), Answer::Refused(10));
+}
+
 #[test]
 fn the_release() {
     assert_eq!(library::version(), VERSION);
@@ -269,8 +317,8 @@ fn words_kept_and_damaged() {
         assert_eq!(damaged.run(&[2, 2, 2]), [Answer::Refused(1); 2]);
         assert_eq!(damaged.desk(0), None);
     }
-    // Board and type of customer 0's first row; 3 is MP, which has no row.
-    for (place, code) in [(3, 2), (5, 3)] {
+    // Board and type of customer 0's first row.
+    for (place, code) in [(3, 2), (5, 4)] {
         let mut words = state.words().to_vec();
         words[4 + 13 * 3 + 3 + place] = code;
         let mut damaged = State::from_words(words);
@@ -278,6 +326,18 @@ fn words_kept_and_damaged() {
         assert!(damaged.desk(1).is_some());
         assert_eq!(damaged.handle(&[2, 2]), Answer::Refused(8));
     }
+}
+
+/// Type 3 is in its list, but a cancelled row is no MP row, nor one with a price.
+#[test]
+fn a_row_that_cannot_be_mp() {
+    let mut state = State::new(2, 3).unwrap();
+    answers(&mut state, PAPER);
+    let mut words = state.words().to_vec();
+    words[4 + 13 * 3 + 3 + 5] = 3;
+    let mut damaged = State::from_words(words);
+    assert_eq!(damaged.desk(0).unwrap().rows[0].order_type, OrderType::Mp);
+    assert_eq!(damaged.handle(&[2, 2]), Answer::Refused(8));
 }
 
 #[test]

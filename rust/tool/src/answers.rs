@@ -2,7 +2,7 @@
 
 use guvontsira::Answer;
 
-/// Every answer by its words in a listing; beside it, paper 01's rule or
+/// Every answer by its words in a listing; beside it, the papers' rule or
 /// condition in short. A summary is in this order.
 #[rustfmt::skip]
 pub const ANSWERS: [(&str, &str); 21] = [
@@ -24,7 +24,7 @@ pub const ANSWERS: [(&str, &str); 21] = [
     ("refused 7", "earlier than the clock"),
     ("refused 8", "damaged record in the state"),
     ("refused 9", "number of an order that is open or was cancelled within a minute"),
-    ("refused 10", "no open order with this number"),
+    ("refused 10", "no open order with this number, or for a rest no MP order"),
     ("refused 11", "volume 0, or more than is open"),
     ("refused 12", "desk full: 32 orders open or cancelled within a minute"),
 ];

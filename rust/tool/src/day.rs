@@ -118,7 +118,7 @@ mod tests {
         assert_eq!(
             listing(Colour(true), false),
             "session open   \x1b[2mok        \x1b[0m  carried out\n\
-             cancel 0 no 1  \x1b[35mrefused 10\x1b[0m  no open order with this number\n\
+             cancel 0 no 1  \x1b[35mrefused 10\x1b[0m  no open order with this number, or for a rest no MP order\n\
              \n2 events\n1 ok\n1 refused 10\n"
         );
         let quiet = listing(Colour(true), true);

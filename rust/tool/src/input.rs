@@ -68,9 +68,11 @@ mod tests {
             "\n# ฿\n".as_bytes(),
             b"session \x07",
         ];
-        let bytes: [&[u8]; 5] = [
+        let bytes: [&[u8]; 6] = [
             &[2, 2],
             &[0],
+            // a rest, whole or cut: 8 is no white space
+            &[8, b'a', b'b', 5, 0, 0, 0, 0xa1, 0x13, 0, 0],
             &[8, b'a', b'b'],
             // paper 02's kinds 9 and 10, for security 0 and for one with a letter's number
             &[9, 0, 0],

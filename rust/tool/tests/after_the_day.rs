@@ -51,6 +51,54 @@ no rows
     assert!(last.starts_with("customer 255 at "));
 }
 
+/// An MP row has no price; the rest of its order is a limit in its place.
+#[test]
+fn mp_rows() {
+    let entered = "\
+session open
+prices 3 main bid 49.75 offer 50.25
+order 2 no 1 security 3 main buy mp x 300 front
+order 2 no 2 security 3 main sell mp x 200 front
+match 2 no 1 x 100
+";
+    let desk = |last: &str| out(&["desk", "-", "2"], format!("{entered}{last}").as_bytes());
+    let title = "customer 2 at 00:00:00.000, session";
+    let counters = "\naccepted  2\nwarned    0\nrejected  0\n\n";
+    assert_eq!(
+        desk(""),
+        format!(
+            "{title} open\n{counters}\
+no  security  board  side  type  price  volume  mark
+ 1         3  main   buy   mp        -     200  open
+ 2         3  main   sell  mp        -     200  open
+"
+        )
+    );
+    assert_eq!(
+        desk("rest 2 no 1 at 50.50\n"),
+        format!(
+            "{title} open\n{counters}\
+no  security  board  side  type   price  volume  mark
+ 1         3  main   buy   limit  50.50     200  open
+ 2         3  main   sell  mp         -     200  open
+"
+        )
+    );
+    assert_eq!(
+        desk("rest 2 no 1 at 50.50\ncancel 2 no 1\ncancel 2 no 2\n"),
+        format!(
+            "{title} open\n{counters}\
+no  security  board  side  type   price  volume  mark
+ 1         3  main   buy   limit  50.50     200  cancelled at 00:00:00.000
+"
+        )
+    );
+    assert_eq!(
+        desk("session break\n"),
+        format!("{title} break\n{counters}no rows\n")
+    );
+}
+
 #[test]
 fn securities() {
     assert_eq!(

@@ -64,7 +64,7 @@ fn more_bytes_than_the_day_program_reads() {
     let long = once.repeat(times);
     assert!(long.len() > 65_536);
     let listing = day(&[], &long);
-    let events = 48 * times;
+    let events = 61 * times;
     assert!(listing.contains(&format!("\n\n{events} events\n")));
     let answers = day(&["--quiet"], &long);
     assert_eq!(answers.lines().count(), events);
@@ -103,6 +103,29 @@ fn broken_events() {
     assert_eq!(
         day(&["--quiet"], b"bytes 1f 02 02\nbytes\nsession open\n"),
         "refused 3\nrefused 2\nok\n"
+    );
+}
+
+/// Kind 8 is known, whole or cut; the first unknown one, 9, is a tab, and ends a
+/// day of bytes all the same.
+#[test]
+fn the_last_kind_and_the_first_unknown() {
+    let rest = [8, 0, 0, 5, 0, 0, 0, 161, 19, 0, 0];
+    assert_eq!(
+        day(&[], &rest),
+        "rest 0 no 5 at 50.25  refused 10  no open order with this number, \
+         or for a rest no MP order\n\
+         \n1 event\n1 refused 10\n"
+    );
+    assert_eq!(day(&["--quiet"], &rest[..10]), "refused 2\n");
+    let unknown = [&rest[..], &[9, 1], &rest].concat();
+    assert_eq!(day(&["--quiet"], &unknown), "refused 10\nrefused 3\n");
+    assert_eq!(day(&["--quiet"], &unknown[11..]), "refused 3\n");
+    let decoded = run(&["decode"], &unknown);
+    assert_eq!(text(&decoded.stdout), "rest 0 no 5 at 50.25\n");
+    assert_eq!(
+        text(&decoded.stderr),
+        "standard input: byte 11: kind 9 is unknown\n"
     );
 }
 

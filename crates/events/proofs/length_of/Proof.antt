@@ -18,4 +18,5 @@ length-of-spec =
     (λ c. ap lengthOf (sym (c .match .keys5)))
     (λ c. ap lengthOf (sym (c .match .keys6)))
     (λ c. ap lengthOf (sym (c .match .keys7)))
+    (λ c. ap lengthOf (sym (c .match .keys8)))
     (λ c. unknown _ (c .match .rest)))

@@ -11,13 +11,13 @@ use Rattle.definitions.specs.Desks.{cancelledRow, changed}
 use Rattle.definitions.specs.Gate.{perform}
 use Rattle.kind_contract.specs.First.{laterRefusal}
 use Rattle.kind_contract.proofs.Laws.{later-refused, header-fits, desk-fits}
-use Rattle.kind_contract.proofs.Done.{desk-done, row-open}
+use Rattle.kind_contract.proofs.Done.{desk-done, row-found}
 use Rattle.kind_cancel.proofs.handle.Statement.{statement}
 use Rattle.kind_cancel.proofs.handle.Tie as tie
 
 returns : tie.Need-returns
 unfolding laterRefusal firstMet
-returns c = later-refused _ _ 10 refl (rw (row-open _ _ _ (c .before .before .desk-at .ensures) (c .before .number-open .ensures), c .if1 .taken))
+returns c = later-refused _ _ 10 refl (rw (row-found _ _ _ (c .before .before .desk-at .ensures) (c .before .number-open .ensures), c .if1 .taken))
 
 returns-2 : tie.Need-returns-2
 unfolding laterRefusal firstMet perform
@@ -27,7 +27,7 @@ returns-2 c =
     let k = s .args .k in
     let x = s .args .x in
     let d = c .before .before .before .before .before .before .before .desk-at .result in
-    desk-done w (event.Cancel k x) (rw (row-open w k (x .number) (c .before .before .before .before .before .before .before .desk-at .ensures) (c .before .before .before .before .before .before .number-open .ensures), c .before .before .before .before .before .if1 .left))
+    desk-done w (event.Cancel k x) (rw (row-found w k _ (c .before .before .before .before .before .before .before .desk-at .ensures) (c .before .before .before .before .before .before .number-open .ensures), c .before .before .before .before .before .if1 .left))
     (changed (cancelledRow (x .number) (headerOf w .clock))) k answer.Ok refl (c .before .before .before .before .before .before .before .desk-at .ensures)
     (c .before .before .before .cancelled .ensures ∙ ap (λ (h : Header). changed (cancelledRow (x .number) (h .clock)) d) (c .before .before .before .before .before .before .before .before .before .header-of .ensures))
     (c .before .before .put-desk .ensures)

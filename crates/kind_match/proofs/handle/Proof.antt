@@ -10,28 +10,28 @@ use Rattle.definitions.specs.Desks.{matchedRow, changed}
 use Rattle.definitions.specs.Gate.{perform}
 use Rattle.kind_contract.specs.First.{laterRefusal}
 use Rattle.kind_contract.proofs.Laws.{later-refused, desk-fits}
-use Rattle.kind_contract.proofs.Done.{desk-done, row-open, row-short}
+use Rattle.kind_contract.proofs.Done.{desk-done, row-found}
 use Rattle.kind_match.proofs.handle.Statement.{statement}
 use Rattle.kind_match.proofs.handle.Tie as tie
 
 returns : tie.Need-returns
 unfolding laterRefusal firstMet
-returns c = later-refused _ _ 10 refl (rw (row-open _ _ _ (c .before .before .desk-at .ensures) (c .before .number-open .ensures), c .if1 .taken))
+returns c = later-refused _ _ 10 refl (rw (row-found _ _ _ (c .before .before .desk-at .ensures) (c .before .number-open .ensures), c .if1 .taken))
 
 returns-2 : tie.Need-returns-2
 unfolding laterRefusal firstMet
 returns-2 c =
-    later-refused _ _ 11 refl (rw (row-open _ _ _ (c .before .before .before .before .desk-at .ensures) (c .before .before .before .number-open .ensures), c .before .before .if1 .left, eq-eqb _ 0 (c .if2 .taken)))
+    later-refused _ _ 11 refl (rw (row-found _ _ _ (c .before .before .before .before .desk-at .ensures) (c .before .before .before .number-open .ensures), c .before .before .if1 .left, eq-eqb _ 0 (c .if2 .taken)))
 
 returns-3 : tie.Need-returns-3
 unfolding laterRefusal firstMet
 returns-3 c =
     later-refused _ _ 11 refl
     (rw (
-      row-open _ _ _ (c .before .before .before .before .before .before .desk-at .ensures) (c .before .before .before .before .before .number-open .ensures),
+      row-found _ _ _ (c .before .before .before .before .before .before .desk-at .ensures) (c .before .before .before .before .before .number-open .ensures),
       c .before .before .before .before .if1 .left,
       ne-eqb _ 0 (c .before .before .if2 .left),
-      row-short _ _ _ _ (c .before .before .before .before .before .before .desk-at .ensures) (c .before .volume-short .ensures),
+      row-found _ _ _ (c .before .before .before .before .before .before .desk-at .ensures) (c .before .volume-short .ensures),
       c .if3 .taken,
     ))
 
@@ -43,10 +43,10 @@ returns-4 c =
     let k = s .args .k in
     let x = s .args .x in
     let none : laterRefusal w (event.Match k x) ≡ 0 = rw (
-      row-open w k (x .number) (c .before .before .before .before .before .before .before .before .before .before .before .desk-at .ensures) (c .before .before .before .before .before .before .before .before .before .before .number-open .ensures),
+      row-found w k _ (c .before .before .before .before .before .before .before .before .before .before .before .desk-at .ensures) (c .before .before .before .before .before .before .before .before .before .before .number-open .ensures),
       c .before .before .before .before .before .before .before .before .before .if1 .left,
       ne-eqb (x .volume) 0 (c .before .before .before .before .before .before .before .if2 .left),
-      row-short w k (x .number) (x .volume) (c .before .before .before .before .before .before .before .before .before .before .before .desk-at .ensures) (c .before .before .before .before .before .before .volume-short .ensures),
+      row-found w k _ (c .before .before .before .before .before .before .before .before .before .before .before .desk-at .ensures) (c .before .before .before .before .before .before .volume-short .ensures),
       c .before .before .before .before .before .if3 .left,
     ) in
     desk-done w (event.Match k x) none (changed (matchedRow (x .number) (x .volume))) k answer.Ok refl (c .before .before .before .before .before .before .before .before .before .before .before .desk-at .ensures) (c .before .before .before .matched .ensures) (c .before .before .put-desk .ensures)

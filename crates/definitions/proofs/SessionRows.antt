@@ -1,4 +1,4 @@
--- ATO and ATC rows over histories: rule S lets them in only in their session, and another session removes them.
+-- ATO, ATC and MP rows over histories: rule S lets them in only in their session, and another session removes them.
 -- Assumes nothing.
 use mathlib.Core.Bool.{Bool, true, false, _&&_, _||_, not}
 use mathlib.Core.List.{List, [], _∷_, map}
@@ -22,9 +22,9 @@ use Rattle.definitions.specs.Desks.{freeRow, freshDesk, closeUp, edited,
 use Rattle.definitions.specs.Rules.{View, pricesOn, bestOpposite, ruleS, verdictOf}
 use Rattle.definitions.specs.Gate.{eventWords, wordsAfter}
 use Rattle.definitions.specs.Lone.{Lone, loneView, loneVerdict, lonePerform}
-use Rattle.definitions.proofs.Tests.{either, and-parts, and-whole, or-parts}
+use Rattle.definitions.proofs.Tests.{either, and-parts, and-whole, or-parts, joined-parts}
 use Rattle.definitions.proofs.Rows.{all-append, all-replicate, all-keep, all-map}
-use Rattle.definitions.proofs.SoundRow.{session-frees, expired-frees, cancelled-frees, matched-frees}
+use Rattle.definitions.proofs.SoundRow.{session-frees, expired-frees, cancelled-frees, matched-frees, rest-frees}
 use Rattle.definitions.proofs.SoundDesk.{rows-counted, no-rules}
 use Rattle.definitions.proofs.State.{header-market}
 use Rattle.definitions.proofs.WellFormed.{Good, keeps}
@@ -32,24 +32,30 @@ use Rattle.definitions.proofs.Isolation.{loneOf}
 use Rattle.definitions.proofs.Performed.{headerBy, other-header, kept-by-event, header-performed, desk-performed}
 use Rattle.definitions.proofs.Standing.{StandsIn, stands-all}
 
--- "ATO outside 1; ATC outside 4" is rejected, and another session removes both: such a row is there only in its session
+-- "ATO outside 1; ATC outside 4; MP outside 2" is rejected, and another session removes all three: such a row is there only in its session
 pub record InItsSession (session : ℕ) (r : Row) : Type 0 where
   pub ato-row : r .«order_type» ≡ ato → session ≡ preOpen
   pub atc-row : r .«order_type» ≡ atc → session ≡ preClose
+  pub mp-row : r .«order_type» ≡ mp → session ≡ opened
 
 -- and as a test
+abbrev onlyIn : ℕ → ℕ → ℕ → ℕ → Bool
+onlyIn its one session type = not (eqb type one && not (eqb session its))
+
 abbrev inItsSession : ℕ → ℕ → Bool
-inItsSession session type = not (eqb type ato && not (eqb session preOpen)) && not (eqb type atc && not (eqb session preClose))
+inItsSession session type = onlyIn preOpen ato session type && onlyIn preClose atc session type && onlyIn opened mp session type
 
 abbrev rowInItsSession : ℕ → Row → Bool
 rowInItsSession session r = inItsSession session (r .«order_type»)
 
 told : (session : ℕ) (r : Row) → rowInItsSession session r ≡ true → InItsSession session r
 told session r e =
-    let parts = and-parts (not (eqb (r .«order_type») ato && not (eqb session preOpen))) (not (eqb (r .«order_type») atc && not (eqb session preClose))) e in
+    let type = r .«order_type» in
+    let parts = joined-parts (onlyIn preOpen ato session type) (onlyIn preClose atc session type ∷ onlyIn opened mp session type ∷ []) e in
     record {
       ato-row = λ type. eqb-true session preOpen (not-false _ (not-true _ (rw type at (parts .0))));
-      atc-row = λ type. eqb-true session preClose (not-false _ (not-true _ (rw type at (parts .1))));
+      atc-row = λ type. eqb-true session preClose (not-false _ (not-true _ (rw type at (parts .1 .0))));
+      mp-row = λ type. eqb-true session opened (not-false _ (not-true _ (rw type at (parts .1 .1 .0))));
     }
 
 -- rows of which each is in its session, edited and with one put among them
@@ -76,17 +82,17 @@ module _ (session : ℕ) where
       and-whole (parts .0) (set-stand xs i r (parts .1) new)
 
   -- a limit stands in any session
-  other-fits : (r : Row) → isAuction (r .«order_type») ≡ false → Fits r
+  other-fits : (r : Row) → (isAuction (r .«order_type») || eqb (r .«order_type») mp) ≡ false → Fits r
   other-fits r e =
-      let parts = or-parts (eqb (r .«order_type») ato) (eqb (r .«order_type») atc) e in
-      rw (parts .0, parts .1)
+      let parts = or-parts (isAuction (r .«order_type»)) (eqb (r .«order_type») mp) e in
+      let auction = or-parts (eqb (r .«order_type») ato) (eqb (r .«order_type») atc) (parts .0) in
+      rw (auction .0, auction .1, parts .1)
 
 -- rule S: an order that takes a row is of a type for its session
-order-fits : (v : View) (o : Order) → takesRow (verdictOf v o) o ≡ true → inItsSession (v .market .session) (o .«order_type») ≡ true
+order-fits : (v : View) (o : Order) → takesRow (verdictOf v o) ≡ true → inItsSession (v .market .session) (o .«order_type») ≡ true
 unfolding ruleS
 order-fits v o takes =
-    let kept = and-parts (not (isRejected (counterOf (verdictOf v o)))) (not (eqb (o .«order_type») mp)) takes .0 in
-    let rule = no-rules v o (not-true (isRejected (counterOf (verdictOf v o))) kept) .0 in
+    let rule = no-rules v o (not-true (isRejected (counterOf (verdictOf v o))) takes) .0 in
     let s = v .market .session in
     let shut = eqb s closed || eqb s break in
     let ato-outside = eqb (o .«order_type») ato && not (eqb s preOpen) in
@@ -96,7 +102,7 @@ order-fits v o takes =
     let r₂ = or-parts (shut || ato-outside || atc-outside || mp-outside) mp-alone rule in
     let r₁ = or-parts (shut || ato-outside || atc-outside) mp-outside (r₂ .0) in
     let r₀ = or-parts (shut || ato-outside) atc-outside (r₁ .0) in
-    rw (or-parts shut ato-outside (r₀ .0) .1, r₀ .1)
+    rw (or-parts shut ato-outside (r₀ .0) .1, r₀ .1, r₁ .1)
 
 -- an event of the lone run
 module _ (l : Lone) (given : Stands (headerOf (l .market) .session) (l .desk .rows)) where
@@ -120,11 +126,12 @@ module _ (l : Lone) (given : Stands (headerOf (l .market) .session) (l .desk .ro
       let clock = headerOf (l .market) .clock in
       let expired = left-by (expiredRow clock) (λ r e. expired-frees (Fits now) clock r refl e) in
       rw (rows-counted (counterOf v) _)
-      (either (λ (d : Desk). Stands now (d .rows)) (takesRow v x) _ _
+      (either (λ (d : Desk). Stands now (d .rows)) (takesRow v) _ _
       (λ takes. set-stand now _ _ (rowOfOrder x) expired (order-fits (loneView l (x .security)) x takes))
       (λ _. given))
   stand-performed (event.Cancel k x) = left-by _ (λ r e. cancelled-frees (Fits now) (x .number) (headerOf (l .market) .clock) r refl e (λ _ _. e))
   stand-performed (event.Match k x) = left-by _ (λ r e. matched-frees (Fits now) (x .number) (x .volume) r refl e (λ _ _. e))
+  stand-performed (event.Rest k x) = left-by _ (λ r e. rest-frees (Fits now) (x .number) (x .price) r e (λ _. refl))
 
 fresh-stand : (session : ℕ) (d : Desk) → d ≡ freshDesk → Stands session (d .rows)
 fresh-stand session d e = rw e (all-replicate (rowInItsSession session) deskRows freeRow refl)
