@@ -8,7 +8,8 @@ use crate::layout::fresh;
 pub const CUSTOMERS: u32 = 2;
 pub const SECURITIES: u32 = 3;
 
-/// An open session: open rows on both boards and sides, and cancelled ones.
+/// An open session: open rows on both boards and sides, and cancelled ones; MP
+/// rows, one of them a limit by now.
 const OPEN: &str = "\
 clock 10:00:00
 session open
@@ -24,6 +25,11 @@ order 0 no 3 security 0 foreign sell limit 51.00 x 200 dma
 order 0 no 4 security 2 main sell limit 400.00 x 7 front
 order 1 no 1 security 1 main sell limit 14.00 x 50 online
 order 1 no 2 security 1 main sell limit 13.00 x 50 online
+order 0 no 5 security 0 main buy mp x 300 front
+order 0 no 6 security 0 foreign sell mp x 400 online
+order 1 no 3 security 0 main sell mp x 500 dma
+match 0 no 6 x 100
+rest 0 no 6 at 50.50
 cancel 0 no 2
 cancel 1 no 2
 clock 10:00:30
@@ -47,14 +53,20 @@ clock 09:46:00.001
 order 1 no 1 security 1 main sell ato x 100 front
 ";
 
-/// A desk with 32 rows; every third of them is cancelled.
+/// A desk with 32 rows; every third of them is cancelled, and of the others
+/// every fifth is of an MP order. The best prices are beside those of the rows.
 fn full() -> String {
-    let mut text = String::from("clock 14:00:00\nsession open\n");
+    let mut text =
+        String::from("clock 14:00:00\nsession open\nprices 0 main bid 50.00 offer 60.00\n");
     for number in 1..=32 {
+        let is_cancelled = number % 3 == 0;
         let satang = 50_00 + 25 * number;
-        let price = format!("{}.{:02}", satang / 100, satang % 100);
-        text += &format!("order 0 no {number} security 0 main buy limit {price} x 60000 online\n");
-        if number % 3 == 0 {
+        let of_type = match number % 5 == 0 && !is_cancelled {
+            true => "mp".into(),
+            false => format!("limit {}.{:02}", satang / 100, satang % 100),
+        };
+        text += &format!("order 0 no {number} security 0 main buy {of_type} x 60000 online\n");
+        if is_cancelled {
             text += &format!("clock 14:00:{number:02}\ncancel 0 no {number}\n");
         }
     }
@@ -126,6 +138,15 @@ match 0 no 1 x 100
 match 0 no 99 x 1
 match 1 no 1 x 50
 match 1 no 1 x 20000001
+match 0 no 5 x 300
+cancel 0 no 5
+rest 0 no 5 at 50.50
+rest 0 no 6 at 50.50
+rest 0 no 1 at 50.50
+rest 0 no 99 at 50.50
+rest 1 no 3 at 49.50
+rest 1 no 1 at 13.00
+rest 0 no 5 at 50.51
 ",
     ));
     events
@@ -164,7 +185,7 @@ mod tests {
                 }
             }
             for customer in 0..CUSTOMERS {
-                for kind in [5, 6, 7] {
+                for kind in [5, 6, 7, 8] {
                     assert!(all.contains(&(kind, "customer", customer)));
                 }
             }

@@ -20,6 +20,7 @@ order 0 no 6 security 0 main buy ato x 100 front
 order 0 no 1 security 0 main buy limit 50.00 x 100 front
 cancel 0 no 1
 match 0 no 3 x 100
+rest 0 no 2 at 50.50
 session break
 order 0 no 7 security 0 main buy limit 50.00 x 100 online
 ";

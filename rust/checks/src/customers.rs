@@ -280,3 +280,31 @@ fn difference(view: &View, gate: &Seen, lone: &Seen) -> String {
     ]
     .concat()
 }
+
+#[cfg(test)]
+mod tests {
+    use second::answer::Answer;
+    use second::gate;
+
+    use super::*;
+
+    /// How many rests of a history are carried out.
+    fn rests(subject: &Subject) -> usize {
+        let mut words = fresh(subject.customers, subject.securities);
+        let carried_out = subject.history.iter().filter(|event| {
+            let answer = gate::handle(&mut words, event);
+            event.first() == Some(&8) && answer == Answer::Ok
+        });
+        carried_out.count()
+    }
+
+    /// A lone run is compared over rests only if its history has some.
+    #[test]
+    fn histories_have_rests() {
+        let mut random = Random::new(1);
+        let by_few: usize = (0..60).map(|_| rests(&by_a_few(&mut random))).sum();
+        let by_all: usize = (0..20).map(|_| rests(&over_every_desk(&mut random))).sum();
+        assert!(by_few > 100, "{by_few}");
+        assert!(by_all > 20, "{by_all}");
+    }
+}

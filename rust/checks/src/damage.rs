@@ -2,7 +2,7 @@
 //! kind against each.
 
 use crate::bases::{bases, events_for};
-use crate::layout::{CLOCK, fresh, meaning};
+use crate::layout::{CLOCK, fresh, meaning, row_start};
 use crate::program::Program;
 
 /// At, below and above what any field may hold.
@@ -75,8 +75,42 @@ pub fn run(program: &mut Program) {
             }
         }
     }
+    rows_of_each_type(program);
     other_counts(program);
     wrong_lengths(program);
+}
+
+/// Mark, type, price and cancel time of one row, every choice of one with every
+/// choice of the others: whether a row is sound hangs on all four.
+fn rows_of_each_type(program: &mut Program) {
+    for (name, base) in bases() {
+        let events = events_for(&base);
+        let clock = base[CLOCK];
+        for row in [0, 4] {
+            let start = row_start(base[1] as usize, 0, row);
+            for mark in 0..=3 {
+                for order_type in 0..=5 {
+                    for price in [0, 1, 50_00, 50_01, u32::MAX] {
+                        for cancel_time in [0, clock, clock + 1] {
+                            let mut damaged = base.clone();
+                            damaged[start] = mark;
+                            damaged[start + 5] = order_type;
+                            damaged[start + 6] = price;
+                            damaged[start + 8] = cancel_time;
+                            program.each(
+                                format_args!(
+                                    "{name}, row {row} with mark {mark}, type {order_type}, \
+                                     price {price}, cancel time {cancel_time}"
+                                ),
+                                &damaged,
+                                &events,
+                            );
+                        }
+                    }
+                }
+            }
+        }
+    }
 }
 
 /// 13 customers less and 291 securities more take as many words: the header is
@@ -103,7 +137,14 @@ fn other_counts(program: &mut Program) {
 fn wrong_lengths(program: &mut Program) {
     for (name, base) in bases() {
         let mut events = events_for(&base);
-        events.extend([vec![], vec![0], vec![8, 1], vec![2], vec![255; 40]]);
+        events.extend([
+            vec![],
+            vec![0],
+            vec![8, 1],
+            vec![9, 1],
+            vec![2],
+            vec![255; 40],
+        ]);
         let mut longer = base.clone();
         longer.push(0);
         let lengths = [0, 1, 2, 3, 4, 17, 308, base.len() - 1, base.len() + 1];

@@ -53,7 +53,7 @@ mod tests {
             assert!(lines(listing).len() > 900);
         }
         let all: Vec<(&str, &str)> = listings.iter().flat_map(|text| lines(text)).collect();
-        for kind in 1..=7 {
+        for kind in 1..=8 {
             assert!(all.iter().any(|line| line.0 == kind.to_string()));
         }
         let verdicts = "ok,accept,warn 10,warn 30,reject S,reject V,reject Q,reject W,reject P";

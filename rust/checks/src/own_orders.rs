@@ -84,6 +84,7 @@ fn rows() -> Vec<[u32; 9]> {
                 row(2, 0, ROW_PRICE),
                 row(1, 1, 0),
                 row(1, 2, 0),
+                row(1, 3, 0),
             ]);
         }
     }

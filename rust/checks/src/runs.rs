@@ -28,7 +28,7 @@ pub fn run(program: &mut Program) {
         .filter(|event| event::decode(event).is_ok())
         .collect();
     let mut streams = vec![vec![], whole.concat(), history.concat()];
-    for kind in 0..9 {
+    for kind in 0..10 {
         // An unknown kind or a cut event at the end.
         let mut cut = whole[..random.place(whole.len())].concat();
         cut.extend([kind, 0, 0, 0]);
@@ -36,7 +36,7 @@ pub fn run(program: &mut Program) {
     }
     streams.push(
         (0..random.below(400))
-            .map(|_| random.below(9) as u8)
+            .map(|_| random.below(10) as u8)
             .collect(),
     );
     for stream in &streams {
@@ -55,7 +55,15 @@ pub fn run(program: &mut Program) {
 /// Events by their lengths, broken ones among them.
 fn lists(program: &mut Program, random: &mut Random, start: &[u32], history: &[Vec<u8>]) {
     let mut events: Vec<&[u8]> = history.iter().map(Vec::as_slice).collect();
-    for broken in [&[][..], &[0], &[8, 1], &[2], &[2, 2, 2], &[6, 0, 0]] {
+    for broken in [
+        &[][..],
+        &[0],
+        &[9, 1],
+        &[2],
+        &[2, 2, 2],
+        &[6, 0, 0],
+        &[8, 0, 0],
+    ] {
         events.insert(random.place(events.len()), broken);
     }
     for places in [0, 1, events.len() / 2, events.len(), events.len() + 9] {

@@ -1,10 +1,15 @@
 //! How often each answer came, and from which kind of event.
 
 use guvontsira::Answer;
+use second::codes::OrderType;
+use second::event::{Event, decode};
 
-/// Kinds 1 to 7 under their numbers, unknown kinds under 0, no bytes under 8.
-const EMPTY: usize = 8;
-const KINDS: usize = 9;
+/// Kinds 1 to 8 under their numbers, unknown kinds under 0, no bytes under 9.
+/// Whole MP orders are counted apart from the other events of kind 5: only so
+/// is it seen that refusal 12 came from them.
+const EMPTY: usize = 9;
+const MARKET_ORDER: usize = 10;
+const KINDS: usize = 11;
 
 /// The answers that each of them can get, by the paper's table.
 const POSSIBLE: [&[u32]; KINDS] = [
@@ -18,7 +23,9 @@ const POSSIBLE: [&[u32]; KINDS] = [
     ],
     &[0, 1, 2, 4, 5, 8, 10],
     &[0, 1, 2, 4, 5, 8, 10, 11],
+    &[0, 1, 2, 4, 5, 6, 8, 10],
     &[1, 2],
+    &[1, 4, 5, 6, 8, 9, 12, 100, 219, 222, 223],
 ];
 
 /// From a fresh state these never come.
@@ -37,13 +44,8 @@ impl Tally {
     }
 
     pub fn add(&mut self, event: &[u8], answer: u32) {
-        let kind = match event.first() {
-            None => EMPTY,
-            Some(&kind @ 1..=7) => usize::from(kind),
-            Some(_) => 0,
-        };
         // Both implementations gave this answer, so it is one of the paper's.
-        self.counts[kind][answer as usize] += 1;
+        self.counts[place(event)][answer as usize] += 1;
     }
 
     fn total(&self, answer: u32) -> u64 {
@@ -69,17 +71,34 @@ impl Tally {
         gaps
     }
 
-    /// The same for histories from fresh states, whatever the kind.
+    /// The same for histories from fresh states.
     pub fn gaps_from_fresh(&self) -> Vec<String> {
-        let all = POSSIBLE.concat();
-        (0..256)
-            .filter(|answer| all.contains(answer))
-            .filter(|&answer| NEVER_FROM_FRESH.contains(&answer) == (self.total(answer) > 0))
-            .map(|answer| {
-                let count = self.total(answer);
-                format!("{} came {count} times in histories", words(answer))
-            })
-            .collect()
+        let mut gaps = Vec::new();
+        for (kind, possible) in POSSIBLE.iter().enumerate() {
+            for &answer in *possible {
+                let count = self.counts[kind][answer as usize];
+                if NEVER_FROM_FRESH.contains(&answer) == (count > 0) {
+                    gaps.push(format!(
+                        "{} came {count} times from {} in histories",
+                        words(answer),
+                        kind_words(kind)
+                    ));
+                }
+            }
+        }
+        gaps
+    }
+}
+
+/// Where an event is counted.
+fn place(event: &[u8]) -> usize {
+    match decode(event) {
+        Ok(Event::Order(order)) if order.order_type == OrderType::Mp as u8 => MARKET_ORDER,
+        _ => match event.first() {
+            None => EMPTY,
+            Some(&kind @ 1..=8) => usize::from(kind),
+            Some(_) => 0,
+        },
     }
 }
 
@@ -106,6 +125,7 @@ fn kind_words(kind: usize) -> String {
     match kind {
         0 => "unknown kinds".into(),
         EMPTY => "no bytes".into(),
+        MARKET_ORDER => "MP orders".into(),
         _ => format!("kind {kind}"),
     }
 }

@@ -1,5 +1,6 @@
 //! Random histories over every desk of the state: most desks have rows, and ATO
-//! or ATC rows when an auction ends, and some far from the first are full.
+//! or ATC rows when an auction ends, and some far from the first are full. Where
+//! an open session follows, most desks have MP rows when it ends.
 
 use second::codes::{OrderType, Session};
 use second::state::ROWS;
@@ -86,6 +87,9 @@ impl Wide {
         let others = self.other_sessions(auction);
         let next = self.random.pick(&others);
         self.session(next);
+        if next == Session::Open {
+            self.rows_on_most_desks(next);
+        }
         self.any_events();
     }
 
@@ -99,16 +103,16 @@ impl Wide {
         all.into_iter().filter(|&other| other != session).collect()
     }
 
-    /// Seven of eight customers, in any order, enter an order for the auction,
-    /// and half of them a limit too.
-    fn rows_on_most_desks(&mut self, auction: Session) {
+    /// Seven of eight customers, in any order, enter an order that goes with the
+    /// session, and half of them a limit too.
+    fn rows_on_most_desks(&mut self, session: Session) {
         let mut customers = self.writer.customers().to_vec();
         self.random.shuffle(&mut customers);
         for customer in customers {
             if self.random.once_in(8) {
                 continue;
             }
-            self.order(customer, of_auction(auction));
+            self.order(customer, of_session(session));
             if self.random.once_in(2) {
                 self.order(customer, OrderType::Limit);
             }
@@ -132,7 +136,7 @@ impl Wide {
         for _ in 0..MOST_ORDERS {
             let is_full = self.writer.rows(customer) == ROWS;
             let order_type = match self.random.below(3) {
-                0 => of_auction(auction),
+                0 => of_session(auction),
                 _ => OrderType::Limit,
             };
             self.order(customer, order_type);
@@ -155,11 +159,12 @@ impl Wide {
     }
 }
 
-/// The type of order that an auction takes besides limits.
-fn of_auction(auction: Session) -> OrderType {
-    match auction {
+/// The type of order that a session takes besides limits.
+fn of_session(session: Session) -> OrderType {
+    match session {
         Session::PreOpen => OrderType::Ato,
-        _ => OrderType::Atc,
+        Session::PreClose => OrderType::Atc,
+        _ => OrderType::Mp,
     }
 }
 
@@ -213,5 +218,29 @@ mod tests {
             assert_eq!(wide_ends, 2, "seed {seed}");
             assert!(sessions <= 6, "{sessions} sessions, seed {seed}");
         }
+    }
+
+    #[test]
+    fn open_sessions_end_with_mp_rows_on_most_desks() {
+        let (customers, securities) = (60, 12);
+        let is_mp = |row: &Row| row.order_type == OrderType::Mp;
+        let mut ends = 0;
+        for seed in 0..12 {
+            let wide = Wide::history(Random::new(seed), customers, securities);
+            let mut words = fresh(customers, securities);
+            for event in &wide.events {
+                let session = Header::read(&words).unwrap().session;
+                if event[..] == [2, Session::PreOpen as u8]
+                    || event[..] == [2, Session::PreClose as u8]
+                {
+                    let desks = desks(&words);
+                    let with_mp = desks.iter().filter(|desk| desk.rows().iter().any(is_mp));
+                    let most = with_mp.count() >= desks.len() * 2 / 3;
+                    ends += u32::from(session == Session::Open && most);
+                }
+                gate::handle(&mut words, event);
+            }
+        }
+        assert!(ends > 0);
     }
 }

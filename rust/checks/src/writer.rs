@@ -3,6 +3,7 @@
 
 use second::codes::{Board, OrderType, Session};
 use second::event::{Order, Prices, Setup};
+use second::ladder::LAST_PRICE;
 use second::state::{CANCEL_MEMORY, Desk, Header, LAST_TIME, Mark, Row, Security};
 use second::{encode, gate};
 
@@ -13,6 +14,9 @@ use crate::prices::{
     limit_price, market_price, middle, order_type, price_near, repeated_volume, step, volume,
 };
 use crate::random::Random;
+
+/// So often a bid and an offer are looked for.
+const MOST_LOOKS: usize = 40;
 
 pub struct Writer {
     random: Random,
@@ -119,12 +123,14 @@ impl Writer {
     /// An order that is mostly accepted: by the front office, of a few lots, near
     /// the market.
     pub fn plain_order(&mut self, customer: u16, order_type: OrderType) -> Vec<u8> {
-        let (security, middle) = self.random.pick(&self.securities);
+        let (security, middle, board) = match order_type {
+            OrderType::Mp => self.quoted(),
+            _ => self.any_security(),
+        };
         let record = self.security(security);
         let desk = self.desk(customer);
         let number = self.number(&desk);
         let random = &mut self.random;
-        let board = random.pick(&[Board::Main, Board::Main, Board::Foreign]);
         let price = match order_type {
             OrderType::Limit => price_near(random, &record, board, middle),
             _ => 0,
@@ -143,6 +149,27 @@ impl Writer {
         self.keep(event)
     }
 
+    /// A security, the position around which it trades, and a board.
+    fn any_security(&mut self) -> (u16, u32, Board) {
+        let (security, middle) = self.random.pick(&self.securities);
+        let boards = [Board::Main, Board::Main, Board::Foreign];
+        (security, middle, self.random.pick(&boards))
+    }
+
+    /// The same where there is a bid and an offer, which MP orders need, if one
+    /// is soon found.
+    fn quoted(&mut self) -> (u16, u32, Board) {
+        let mut found = self.any_security();
+        for _ in 0..MOST_LOOKS {
+            let quotes = *self.security(found.0).quotes(found.2);
+            if quotes.bid != 0 && quotes.offer != 0 {
+                break;
+            }
+            found = self.any_security();
+        }
+        found
+    }
+
     fn keep(&mut self, event: Vec<u8>) -> Vec<u8> {
         gate::handle(&mut self.words, &event);
         event
@@ -158,6 +185,7 @@ impl Writer {
             Kind::Repeat => self.repeat(),
             Kind::Cancel => self.cancel(),
             Kind::Match => self.match_report(),
+            Kind::Rest => self.rest(),
             Kind::Malformed => {
                 let event = self.written();
                 malformed(&mut self.random, &self.words, event)
@@ -277,10 +305,7 @@ impl Writer {
 
     fn order(&mut self) -> Vec<u8> {
         let customer = self.random.pick(&self.customers);
-        let (security, middle) = self.random.pick(&self.securities);
-        let board = self
-            .random
-            .pick(&[Board::Main, Board::Main, Board::Foreign]);
+        let (security, middle, board) = self.any_security();
         let fitting = match self.header().session {
             Session::PreOpen => OrderType::Ato,
             Session::PreClose => OrderType::Atc,
@@ -370,5 +395,50 @@ impl Writer {
             _ => random.pick(&[0, 1, u32::MAX]),
         };
         encode::match_report(customer, number, volume)
+    }
+
+    /// An MP order that finds a best price, for a rest to come.
+    fn market_order(&mut self, customer: u16) -> Vec<u8> {
+        let (security, _, board) = self.quoted();
+        let lot = self.security(security).lot;
+        let desk = self.desk(customer);
+        let number = self.number(&desk);
+        let random = &mut self.random;
+        encode::order(&Order {
+            customer,
+            number,
+            security,
+            board: board as u8,
+            side: random.below(2) as u8,
+            order_type: OrderType::Mp as u8,
+            channel: random.pick(self.mixture.channels),
+            price: 0,
+            volume: volume(random, lot, 0, desk.rows()),
+        })
+    }
+
+    /// Mostly for an MP row, and mostly near the market.
+    fn rest(&mut self) -> Vec<u8> {
+        let any = self.random.once_in(12);
+        let (customer, row) = self.customer_with(|row| any || row.order_type == OrderType::Mp);
+        let Some(row) = row else {
+            if self.header().session == Session::Open && !self.random.once_in(4) {
+                return self.market_order(customer);
+            }
+            let number = 1 + self.random.below(60);
+            return encode::rest(customer, number, step(middle(&mut self.random), 0));
+        };
+        let security = row.security as u16;
+        let record = self.security(security);
+        let desk = self.desk(customer);
+        let random = &mut self.random;
+        let traded = self.securities.iter().find(|traded| traded.0 == security);
+        let middle = traded.map_or(1, |traded| traded.1);
+        let price = match random.below(30) {
+            0 => random.word() % (LAST_PRICE + 1_000),
+            1 => 0,
+            _ => limit_price(random, &record, row.board, desk.rows(), middle),
+        };
+        encode::rest(customer, row.number, price)
     }
 }
