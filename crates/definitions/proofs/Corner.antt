@@ -8,7 +8,7 @@ use Rattle.definitions.specs.declared.Answer.the-variants as answer
 use Rattle.definitions.specs.declared.Verdict.{Verdict}
 use Rattle.definitions.specs.declared.Verdict.the-variants.{RejectS, RejectV, RejectQ, RejectW, RejectP, Warn30, Warn10, Accept}
 use Rattle.definitions.proofs.Bytes as bytes
-use Rattle.definitions.proofs.Run.{resultOn}
+use Rattle.definitions.proofs.Run.{resultOn, performedOn}
 
 -- words written from a place on, one after another
 abbrev pub Changes : Type 0
@@ -34,6 +34,10 @@ corner words event answer changes = record { words = words; event = event; answe
 
 abbrev pub found : Corner → Answer × List ℕ
 found c = resultOn (c .words) (c .event)
+
+-- the same without the conditions, for the tables of verdicts: what the conditions ask is in the other tables
+abbrev pub performed : Corner → Answer × List ℕ
+performed c = performedOn (c .words) (c .event)
 
 abbrev pub right : Corner → Answer × List ℕ
 right c = (c .answer, changedBy (c .changes) (c .words))

@@ -5,8 +5,8 @@ use mathlib.Core.Path.{_≡_, refl}
 use Prim.Native.Nat.{ℕ}
 use Rattle.definitions.specs.declared.Verdict.{Verdict}
 use Rattle.definitions.specs.declared.Verdict.the-variants.{RejectS, RejectV, RejectQ, Warn30, Warn10, Accept}
-use Rattle.definitions.proofs.Run.{resultOn}
-use Rattle.definitions.proofs.Corner.{Corner, Entry, found, right, judged, security, terms, traded, plain, free, untraded, main, foreign, buy, sell, limit, ato, atc, mp, office, online, dma, entry}
+use Rattle.definitions.proofs.Run.{performedOn}
+use Rattle.definitions.proofs.Corner.{Corner, Entry, performed, right, judged, security, terms, traded, plain, free, untraded, main, foreign, buy, sell, limit, ato, atc, mp, office, online, dma, entry}
 
 -- order number 1 of a customer without rows, in a session, in a lone security and in the second of two
 abbrev pub meets : ℕ → List ℕ → Entry → Verdict → Corner
@@ -221,6 +221,6 @@ corners =
     ∷ meets 2 (freeAt (both 1000 1000) untraded) (priced online 1500) Warn30
     ∷ []
 
-pub all-right : map found corners ≡ map right corners
-unfolding resultOn
+pub all-right : map performed corners ≡ map right corners
+unfolding performedOn
 all-right = refl

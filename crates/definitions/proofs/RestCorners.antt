@@ -1,5 +1,5 @@
--- Paper 02, 1, "What is left of a market order": the row of an MP order, and kind 8, at each edge, run on the definitions; one theorem over the whole. When
--- such a row is sound is in SoundCorners.antt.
+-- Paper 02, 1, "What is left of a market order": the row of an MP order, and kind 8, at each edge, run on the definitions; one theorem over each
+-- table. When such a row is sound is in SoundCorners.antt.
 use mathlib.Core.List.{List, [], _∷_, _++_, map}
 use mathlib.Core.Path.{_≡_, refl}
 use Prim.Native.Nat.{ℕ, _+_}
@@ -7,8 +7,8 @@ use lib.ListN.{replicate, take}
 use Rattle.definitions.specs.declared.Verdict.{Verdict}
 use Rattle.definitions.specs.declared.Verdict.the-variants.{RejectS, RejectV, RejectW, Accept}
 use Rattle.definitions.proofs.Bytes.{session, cancel, match, rest}
-use Rattle.definitions.proofs.Run.{resultOn}
-use Rattle.definitions.proofs.Corner.{Corner, Entry, found, right, refused, done, verdict, judged, written, joined, state, sessionAt, securityAt, deskAt, rowAt, security, plain, traded, untraded, desk, main, foreign, buy, sell, limit, ato, atc, mp, office, online, dma, entry, bytesOf, opened, cancelled}
+use Rattle.definitions.proofs.Run.{resultOn, performedOn}
+use Rattle.definitions.proofs.Corner.{Corner, Entry, found, performed, right, refused, done, verdict, judged, written, joined, state, sessionAt, securityAt, deskAt, rowAt, security, plain, traded, untraded, desk, main, foreign, buy, sell, limit, ato, atc, mp, office, online, dma, entry, bytesOf, opened, cancelled}
 use Rattle.definitions.proofs.Corners.{openRows}
 
 -- limits, MP orders and what is left of them at a price; security, board and side differ from each other in one of them or another
@@ -131,8 +131,16 @@ corners =
     ∷ done (limited 2) (match 0 2 299) ((rowAt 2 0 1, opened (entry 2 1 foreign sell limit dma 5975 1)) ∷ [])
     ∷ done (rowsAnd 1 (opened (atMarket 40) ∷ opened (bought 41) ∷ [])) (match 0 40 300) ((rowAt 2 0 1, opened (bought 41) ++ replicate 9 0) ∷ [])
     ∷ refused (words 2) (match 0 2 301) 11
-    -- "W compares with such a row only once it is a limit": no order meets a row of type 3
-    ∷ against 2 (ownAtMarket sell) (enters buy limit 10_000_000) Accept
+    ∷ []
+
+pub all-right : map found corners ≡ map right corners
+unfolding resultOn
+all-right = refl
+
+-- "W compares with such a row only once it is a limit": no order meets a row of type 3
+abbrev pub meetings : List Corner
+meetings =
+    against 2 (ownAtMarket sell) (enters buy limit 10_000_000) Accept
     ∷ against 2 (ownAtMarket sell) (enters buy mp 0) Accept
     ∷ against 1 (ownAtMarket sell) (enters buy ato 0) Accept
     ∷ against 4 (ownAtMarket sell) (enters buy atc 0) Accept
@@ -150,6 +158,6 @@ corners =
     ∷ against 4 (ownLeft buy) (enters sell atc 0) RejectW
     ∷ []
 
-pub all-right : map found corners ≡ map right corners
-unfolding resultOn
-all-right = refl
+pub meetings-right : map performed meetings ≡ map right meetings
+unfolding performedOn
+meetings-right = refl

@@ -5,8 +5,8 @@ use mathlib.Core.Path.{_≡_, refl}
 use Prim.Native.Nat.{ℕ}
 use Rattle.definitions.specs.declared.Verdict.{Verdict}
 use Rattle.definitions.specs.declared.Verdict.the-variants.{RejectV, RejectQ, RejectW, RejectP, Accept}
-use Rattle.definitions.proofs.Run.{resultOn}
-use Rattle.definitions.proofs.Corner.{Corner, Entry, found, right, judged, security, terms, traded, plain, free, untraded, main, foreign, buy, sell, limit, ato, atc, mp, office, online, dma, entry, opened, cancelled}
+use Rattle.definitions.proofs.Run.{performedOn}
+use Rattle.definitions.proofs.Corner.{Corner, Entry, performed, right, judged, security, terms, traded, plain, free, untraded, main, foreign, buy, sell, limit, ato, atc, mp, office, online, dma, entry, opened, cancelled}
 
 -- two securities, of which the first has some prices on the main board; the clock is at 100,000
 abbrev pub meets : ℕ → List ℕ → List (List ℕ) → Entry → Verdict → Corner
@@ -234,6 +234,6 @@ corners =
     ∷ judged 100_000 1 (security plain (traded 2450 0 0 0) untraded ∷ []) (ownSell 5000) (buys 5000) RejectW
     ∷ []
 
-pub all-right : map found corners ≡ map right corners
-unfolding resultOn
+pub all-right : map performed corners ≡ map right corners
+unfolding performedOn
 all-right = refl

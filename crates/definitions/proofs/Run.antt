@@ -21,6 +21,11 @@ unfoldable pub resultOn : List ℕ → List ℕ → Answer × List ℕ
 unfolding answersOf
 resultOn w b = gate.resultOf w (gate.outcome w b)
 
+-- what the event does where it meets no condition
+unfoldable pub performedOn : List ℕ → List ℕ → Answer × List ℕ
+unfolding answersOf
+performedOn w b = gate.resultOf w (gate.perform w (events.eventIn b))
+
 -- the words after a history from a fresh state
 unfoldable pub wordsOf : ℕ → ℕ → List (List ℕ) → List ℕ
 unfolding answersOf gate.wordsAfter
