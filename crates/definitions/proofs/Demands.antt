@@ -1,14 +1,15 @@
--- The three demands of paper 00 as theorems over the definitions of paper 01. Read this file first: each theorem stands under the sentence that it
--- proves. The definitions that it names are in crates/definitions/specs, but for those that stand beside their laws: `FoundFirst` in Refused.antt, `Good`,
+-- The three demands of paper 00 as theorems over the definitions of paper 01, and of paper 02 as far as it has landed. Read this file first: each theorem stands
+-- under the sentence that it proves. The definitions that it names are in crates/definitions/specs, but for those that stand beside their laws: `FoundFirst` in Refused.antt, `Good`,
 -- a well-formed state, in WellFormed.antt, `AppliesFirst` in Verdicts.antt, `Belongs` in Ownership.antt, what a counter counts in Counters.antt, what a
--- session change leaves in SessionChange.antt, `StandsIn` in Standing.antt, a row as a cancel marks it in Minute.antt, and the session of an ATO, ATC or MP row
--- in SessionRows.antt. That the code does what `outcome` says is the contract of `gate::handle`.
+-- session change leaves in SessionChange.antt, `StandsIn` in Standing.antt, a row as a cancel marks it in Minute.antt, the session of an ATO, ATC or MP row
+-- in SessionRows.antt, `RestLimited` and `withoutMpRows` in RestRows.antt, and `MpRow` in SoundRow.antt. That the code does what `outcome` says is the contract of `gate::handle`.
 -- Assumes nothing.
 use mathlib.Core.Bool.{Bool, true, not, false}
 use mathlib.Core.List.{List}
 use mathlib.Core.Logic.{_↔_}
 use mathlib.Core.Path.{_≡_, ap, sym, _∙_}
 use Prim.Native.Nat.{ℕ, _+_, _≤_, _<_}
+use Rattle.ladder.specs.Ladder.{legal}
 use Rattle.definitions.specs.declared.Row.{Row}
 use Rattle.definitions.specs.declared.Order.{Order}
 use Rattle.definitions.specs.declared.Cancel.{Cancel}
@@ -20,7 +21,7 @@ use Rattle.definitions.specs.declared.Verdict.{Verdict}
 use Rattle.definitions.specs.declared.Answer.{Answer}
 use Rattle.definitions.specs.declared.Answer.the-variants as answer
 use Rattle.definitions.specs.Codes.{openMark, cancelledMark, limit, mp}
-use Rattle.definitions.specs.Lists.{all, keep, count}
+use Rattle.definitions.specs.Lists.{any, all, keep, count, firstMet}
 use Rattle.definitions.specs.State.{headerOf, sizesFit, fresh, deskAt, putDesk, deskWords, stateFits}
 use Rattle.definitions.specs.Gate.{answerOf, wordsOf, recordsSound, conditions, viewAt, verdictAt, orderedAt, perform, outcome, eventAnswer, eventWords, wordsAfter, answersTo}
 use Rattle.definitions.specs.Lone.{Lone, loneFresh, loneAfter, loneAnswers, isFed, marketWords, customerWords}
@@ -44,13 +45,13 @@ use Rattle.definitions.proofs.Minute.{cancelledAt}
 use Rattle.definitions.proofs.SessionRows as sessionRows
 use Rattle.definitions.proofs.SessionRows.{InItsSession}
 use Rattle.definitions.proofs.RestRows as restRows
-use Rattle.definitions.proofs.RestRows.{RestLimited, withoutMpRows}
+use Rattle.definitions.proofs.RestRows.{isRest, RestLimited, withoutMpRows}
 use Rattle.definitions.proofs.SoundRow as soundRow
 use Rattle.definitions.proofs.SoundRow.{MpRow}
 use Rattle.definitions.proofs.SoundDesk.{desk-true}
 use Rattle.definitions.specs.Sound.{soundRow as soundRowTest}
 use Rattle.definitions.specs.Rules.{View, ruleW}
-use Rattle.definitions.specs.Events.{eventIn}
+use Rattle.definitions.specs.Events.{eventIn, bytesConditions}
 use Rattle.definitions.specs.Refusals.{badName}
 
 -- DEMAND 1, of the definitions. (That nothing steps outside what was lent, wraps, loses bits or fails to end is proved of the code, function by function.)
@@ -180,6 +181,14 @@ module _ (customers securities : ℕ) (fit : sizesFit customers securities ≡ t
       → Unrefused (after history) b
       → RestLimited (after history) (eventWords (after history) b) k x
   rest-limits history = restRows.rest-limits (after history) (well-formed history)
+
+  -- "without such a row it gets refusal 10, a price off the ladder 6", and it is refused for nothing else: read whole, of a customer below C, for such a row and at
+  -- a ladder price it is "answered ok"
+  pub rest-answered : (k : ℕ) → k < customers → (history : List (List ℕ)) (b : List ℕ) (x : Rest) → firstMet (bytesConditions b) ≡ 0 → eventIn b ≡ event.Rest k x
+      → any (isRest (x .number)) (deskAt (after history) k .rows) ≡ true
+      → legal (x .price) ≡ true
+      → eventAnswer (after history) b ≡ answer.Ok
+  rest-answered k below history b x read e there on-ladder = restRows.rest-answered (after history) (well-formed history) k below x there on-ladder b read e
 
   -- "of type 3, sound only with price 0": after every history such a row is open, and has no price
   pub mp-row : (k : ℕ) → k < customers → (history : List (List ℕ)) (r : Row) → StandsIn r (deskAt (after history) k .rows) → r .«order_type» ≡ mp → MpRow r

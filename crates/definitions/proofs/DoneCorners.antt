@@ -1,5 +1,5 @@
--- Paper 01, "Events": what each kind does to the words, run on the definitions over two customers and three securities, and one theorem over the
--- whole.
+-- Paper 01, "Events": what each of its kinds does to the words, run on the definitions over two customers and three securities, and one theorem over the
+-- whole. Kind 8 is in RestCorners.antt.
 use mathlib.Core.List.{List, [], _∷_, _++_, map}
 use mathlib.Core.Path.{_≡_, refl}
 use Prim.Native.Nat.{ℕ, _+_}

@@ -93,6 +93,11 @@ corners =
     ∷ done (words 2) (rest 1 6 5975) ((rowAt 2 1 2, opened (leftAt 6 5975)) ∷ [])
     ∷ done (rowsAnd 31 (opened (atMarket 40) ∷ [])) (rest 0 40 5975) ((rowAt 2 0 31, opened (leftAt 40 5975)) ∷ [])
     ∷ done (rowsAnd 1 (opened (atMarket 40) ∷ opened (atMarket 41) ∷ [])) (rest 0 41 5975) ((rowAt 2 0 2, opened (leftAt 41 5975)) ∷ [])
+    -- it is no order: value, lot and own orders are not asked, and no row goes whose minute is over
+    ∷ done (rowsAnd 1 (opened (entry 40 0 main sell mp online 0 20_000_000) ∷ [])) (rest 0 40 10_000_000)
+    ((rowAt 2 0 1, opened (entry 40 0 main sell limit online 10_000_000 20_000_000)) ∷ [])
+    ∷ done (rowsAnd 1 (opened (entry 40 0 main sell mp online 0 1) ∷ [])) (rest 0 40 5000) ((rowAt 2 0 1, opened (entry 40 0 main sell limit online 5000 1)) ∷ [])
+    ∷ done (rowsAnd 1 (cancelled 39_999 (bought 39) ∷ opened (atMarket 40) ∷ [])) (rest 0 40 5975) ((rowAt 2 0 2, opened (leftAt 40 5975)) ∷ [])
     -- "without such a row it gets refusal 10": a limit, a cancelled row, ATO, ATC, another's row, none, and for the second time
     ∷ refused (words 2) (rest 0 1 5975) 10
     ∷ refused (words 2) (rest 0 3 5975) 10
@@ -116,6 +121,7 @@ corners =
     ∷ refused (written (words 2) (rowAt 2 0 0) (3 ∷ [])) (rest 0 2 5975) 8
     ∷ refused (written (words 2) (rowAt 2 0 0) (3 ∷ [])) (rest 0 7 5975) 8
     ∷ done (written (words 2) (rowAt 2 1 0) (3 ∷ [])) (rest 0 2 5975) ((rowAt 2 0 1, opened (leftAt 2 5975)) ∷ [])
+    ∷ done (written (words 2) (securityAt 0) (10 ∷ [])) (rest 0 2 5975) ((rowAt 2 0 1, opened (leftAt 2 5975)) ∷ [])
     ∷ done (written (words 2) (securityAt 1) (10 ∷ [])) (rest 0 2 5975) ((rowAt 2 0 1, opened (leftAt 2 5975)) ∷ [])
     -- "Cancel .. treat[s] type 3 as ATO"; once it is a limit, as a limit
     ∷ done (rowsAnd 1 (opened (atMarket 40) ∷ opened (bought 41) ∷ [])) (cancel 0 40) ((rowAt 2 0 1, opened (bought 41) ++ replicate 9 0) ∷ [])

@@ -1,14 +1,15 @@
--- Paper 02, 1, "What is left of a market order": kind 8 makes one row a limit and leaves every other word, and W compares with no row of type 3.
+-- Paper 02, 1, "What is left of a market order": kind 8 makes one row a limit and leaves every other word, and is refused where the paper says so and nowhere
+-- else; W compares with no row of type 3.
 -- Assumes nothing.
 use mathlib.Core.Bool.{Bool, true, false, cond, _&&_, not, and-false, or-false}
 use mathlib.Core.List.{List, [], _∷_, _++_, map}
 use mathlib.Core.Path.{_≡_, refl, ap, ap₂, sym, subst, _∙_}
-use Prim.Native.Nat.{ℕ, _-_}
+use Prim.Native.Nat.{ℕ, _-_, _<_}
 use native.Mathlib.Nat.{suc-sub-suc}
 use native.Mathlib.Omega.{arith}
 use lib.Dec.{eqb}
 use lib.ListN.{length, replicate, length-replicate}
-use borrow.Author.Tests.{eqb-true, not-true, not-false}
+use borrow.Author.Tests.{eqb-true, not-true, not-false, lt-leb}
 use Rattle.ladder.specs.Ladder.{legal}
 use Rattle.definitions.specs.declared.Prices.{Prices}
 use Rattle.definitions.specs.declared.Row.{Row}
@@ -19,20 +20,21 @@ use Rattle.definitions.specs.declared.Counter.{Counter}
 use Rattle.definitions.specs.declared.Event.the-variants as event
 use Rattle.definitions.specs.declared.Answer.the-variants as answer
 use Rattle.definitions.specs.Codes.{openMark, limit, mp, deskRows}
-use Rattle.definitions.specs.Lists.{any, all, keep, count}
+use Rattle.definitions.specs.Lists.{any, all, keep, count, firstMet}
 use Rattle.definitions.specs.State.{row, headerOf, deskAt, putDesk}
 use Rattle.definitions.specs.Sound.{marked, soundRow, markedFirst, soundDesk}
 use Rattle.definitions.specs.Desks.{freeRow, closeUp, edited, restRow, withRows, changed}
-use Rattle.definitions.specs.Events.{eventIn}
+use Rattle.definitions.specs.Events.{eventIn, bytesConditions}
 use Rattle.definitions.specs.Rules.{View, tradesWithOwn, ruleW}
-use Rattle.definitions.specs.Gate.{perform, eventAnswer, eventWords}
-use Rattle.definitions.proofs.Tests.{and-parts, or-parts}
+use Rattle.definitions.specs.Refusals.{badName}
+use Rattle.definitions.specs.Gate.{answerOf, perform, eventAnswer, eventWords}
+use Rattle.definitions.proofs.Tests.{never, and-parts, or-parts}
 use Rattle.definitions.proofs.Rows.{any-keep, count-replicate}
-use Rattle.definitions.proofs.SoundRow.{unmarked-free, open-time, rest-frees}
+use Rattle.definitions.proofs.SoundRow.{unmarked-free, open-time, open-number, rest-changes}
 use Rattle.definitions.proofs.SoundDesk.{desk-true, length-changed}
 use Rattle.definitions.proofs.State.{length-desk-rows, desk-put-same}
-use Rattle.definitions.proofs.Passed.{Passed, passed, none-met-event}
-use Rattle.definitions.proofs.WellFormed.{Good, customer-named}
+use Rattle.definitions.proofs.Passed.{table, Passed, passed, none-met-event, outcome-read}
+use Rattle.definitions.proofs.WellFormed.{Good, fits, records-sound, customer-named}
 use Rattle.definitions.proofs.Refused.{unrefused, unrefused-performs}
 use Rattle.definitions.proofs.Counters.{counterIn, counter-changed}
 use Rattle.definitions.proofs.SessionChange.{keep-free}
@@ -63,7 +65,7 @@ module _ (S clock : ℕ) (f : Row → Row) (free : f freeRow ≡ freeRow) (marks
       parts = and-parts (soundRow S clock r) (all (soundRow S clock) rs) sound
 
       go : (t : Bool) → marked r ≡ t → cond t (markedFirst rs) (not (any marked rs)) ≡ true → (markedFirst rs ≡ true → closeUp (map f rs) ≡ map f rs) → closeUp (f r ∷ map f rs) ≡ f r ∷ map f rs
-      go true m rest later = rw (marks r m, suc-sub-suc) (ap (λ (xs : List Row). f r ∷ xs) (later rest))
+      go true m first later = rw (marks r m, suc-sub-suc) (ap (λ (xs : List Row). f r ∷ xs) (later first))
       go false m none later =
           subst (λ (xs : List Row). closeUp xs ≡ xs) (sym (all-free (r ∷ rs) sound (rw m (not-true (any marked rs) none)))) (closed-free (length (r ∷ rs)))
 
@@ -76,7 +78,7 @@ module _ (S clock : ℕ) (f : Row → Row) (free : f freeRow ≡ freeRow) (marks
 pub rest-in-place : (S clock number price : ℕ) (d : Desk) → soundDesk S clock d ≡ true
     → changed (restRow number price) d ≡ withRows (map (restRow number price) (d .rows)) d
 rest-in-place S clock number price =
-    in-place S clock (restRow number price) refl (λ r m. rest-frees (λ (x : Row). marked x ≡ true) number price r m (λ _. m))
+    in-place S clock (restRow number price) refl (λ r m. rest-changes (λ (x : Row). marked x ≡ true) number price r m (λ _. m))
 
 -- "an open type 3 row" with the number, and the limit that it is made: open, with its number, security, board, side and volume
 abbrev pub isRest : ℕ → Row → Bool
@@ -134,6 +136,43 @@ rest-limits {customers} {securities} w good b k x e answered =
       counters = λ c. ap (counterIn c) after ∙ counter-changed c f d;
       elsewhere = words ∙ ap (putDesk w k) (sym after);
     }
+
+-- the other way round: kind 8 for a row that is there, at a ladder price, is answered ok. No number 0 has a row.
+no-rest-of-0 : (S clock : ℕ) (rows : List Row) → all (soundRow S clock) rows ≡ true → any (isRest 0) rows ≡ false
+unfolding all any
+no-rest-of-0 S clock [] sound = refl
+no-rest-of-0 S clock (r ∷ rs) sound =
+    let parts = and-parts (soundRow S clock r) (all (soundRow S clock) rs) sound in
+    rw (none (isRest 0 r) refl (parts .0)) (no-rest-of-0 S clock rs (parts .1))
+  where
+    none : (t : Bool) → isRest 0 r ≡ t → soundRow S clock r ≡ true → isRest 0 r ≡ false
+    none false e sound = e
+    none true e sound =
+        let own = and-parts (eqb (r .mark) openMark) (eqb (r .number) 0) (and-parts (eqb (r .mark) openMark && eqb (r .number) 0) (eqb (r .«order_type») mp) e .0) in
+        absurd (omega (arith, open-number S clock r sound (eqb-true (r .mark) openMark (own .0)), eqb-true (r .number) 0 (own .1)))
+
+module _ {customers securities : ℕ} (w : List ℕ) (good : Good customers securities w) (k : ℕ) (below : k < customers) (x : Rest)
+    (there : any (isRest (x .number)) (deskAt w k .rows) ≡ true) (on-ladder : legal (x .price) ≡ true) where
+  number-above-0 : eqb (x .number) 0 ≡ false
+  number-above-0 = go (eqb (x .number) 0) refl
+    where
+      sound : all (soundRow securities (headerOf w .clock)) (deskAt w k .rows) ≡ true
+      sound = desk-true securities (headerOf w .clock) (deskAt w k) (good .desks-sound k below) .each
+
+      go : (t : Bool) → eqb (x .number) 0 ≡ t → eqb (x .number) 0 ≡ false
+      go false e = e
+      go true e = never there (rw (eqb-true (x .number) 0 e) (no-rest-of-0 securities (headerOf w .clock) (deskAt w k .rows) sound))
+
+  named : badName (headerOf w) (event.Rest k x) ≡ false
+  named = rw (lt-leb (headerOf w .customers) k (rw (good .served) below))
+
+  unmet : firstMet (table w (event.Rest k x)) ≡ 0
+  unfolding firstMet
+  unmet = rw (named, number-above-0, on-ladder, records-sound w good (event.Rest k x) named, there)
+
+  pub rest-answered : (b : List ℕ) → firstMet (bytesConditions b) ≡ 0 → eventIn b ≡ event.Rest k x → eventAnswer w b ≡ answer.Ok
+  unfolding perform
+  rest-answered b read e = ap answerOf (outcome-read w b (fits w good)) ∙ rw (read, e, unmet)
 
 -- "W compares with such a row only once it is a limit": without its rows of type 3 a desk gives the same W
 mp-unmet : (session : ℕ) (p : Prices) (o : Order) (r : Row) → r .«order_type» ≡ mp → tradesWithOwn session p o r ≡ false

@@ -50,12 +50,12 @@ pub record SecurityCleared (x y : Security) : Type 0 where
 abbrev pub isLimitRow : Row → Bool
 isLimitRow r = (eqb (r .mark) openMark || eqb (r .mark) cancelledMark) && eqb (r .«order_type») limit
 
-abbrev pub isOtherRow : Row → Bool
-isOtherRow r = eqb (r .«order_type») ato || eqb (r .«order_type») atc || eqb (r .«order_type») mp
+abbrev pub isUnpricedRow : Row → Bool
+isUnpricedRow r = eqb (r .«order_type») ato || eqb (r .«order_type») atc || eqb (r .«order_type») mp
 
 pub record DeskCleared (d e : Desk) : Type 0 where
   pub limits : keep isLimitRow (e .rows) ≡ keep isLimitRow (d .rows)
-  pub others : any isOtherRow (e .rows) ≡ false
+  pub unpriced : any isUnpricedRow (e .rows) ≡ false
   pub counters : (c : Counter) → counterIn c e ≡ counterIn c d
 
 -- v is w after a change to another session
@@ -134,7 +134,7 @@ desk-cleared d =
     record {
       limits =
           keep-edited isLimitRow sessionRow limit-stays (λ r e. session-frees (λ (x : Row). isLimitRow x ≡ false) r refl (λ _. e)) limit-marked refl (d .rows);
-      others = none-edited isOtherRow sessionRow (λ r. session-frees (λ (x : Row). isOtherRow x ≡ false) r refl (λ other. other)) refl (d .rows);
+      unpriced = none-edited isUnpricedRow sessionRow (λ r. session-frees (λ (x : Row). isUnpricedRow x ≡ false) r refl (λ other. other)) refl (d .rows);
       counters = λ c. counter-changed c sessionRow d;
     }
 

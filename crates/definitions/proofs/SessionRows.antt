@@ -24,7 +24,7 @@ use Rattle.definitions.specs.Gate.{eventWords, wordsAfter}
 use Rattle.definitions.specs.Lone.{Lone, loneView, loneVerdict, lonePerform}
 use Rattle.definitions.proofs.Tests.{either, and-parts, and-whole, or-parts, joined-parts}
 use Rattle.definitions.proofs.Rows.{all-append, all-replicate, all-keep, all-map}
-use Rattle.definitions.proofs.SoundRow.{session-frees, expired-frees, cancelled-frees, matched-frees, rest-frees}
+use Rattle.definitions.proofs.SoundRow.{session-frees, expired-frees, cancelled-frees, matched-frees, rest-changes}
 use Rattle.definitions.proofs.SoundDesk.{rows-counted, no-rules}
 use Rattle.definitions.proofs.State.{header-market}
 use Rattle.definitions.proofs.WellFormed.{Good, keeps}
@@ -131,7 +131,7 @@ module _ (l : Lone) (given : Stands (headerOf (l .market) .session) (l .desk .ro
       (λ _. given))
   stand-performed (event.Cancel k x) = left-by _ (λ r e. cancelled-frees (Fits now) (x .number) (headerOf (l .market) .clock) r refl e (λ _ _. e))
   stand-performed (event.Match k x) = left-by _ (λ r e. matched-frees (Fits now) (x .number) (x .volume) r refl e (λ _ _. e))
-  stand-performed (event.Rest k x) = left-by _ (λ r e. rest-frees (Fits now) (x .number) (x .price) r e (λ _. refl))
+  stand-performed (event.Rest k x) = left-by _ (λ r e. rest-changes (Fits now) (x .number) (x .price) r e (λ _. refl))
 
 fresh-stand : (session : ℕ) (d : Desk) → d ≡ freshDesk → Stands session (d .rows)
 fresh-stand session d e = rw e (all-replicate (rowInItsSession session) deskRows freeRow refl)

@@ -1,4 +1,4 @@
--- Paper 01, condition 8: which records a kind reads, and each clause of "A record is sound if: ..", at each edge, run on the definitions; one theorem over each
+-- Paper 01, condition 8: which records a kind reads (kind 8 is in RestCorners.antt), and each clause of "A record is sound if: ..", at each edge, run on the definitions; one theorem over each
 -- table.
 use mathlib.Core.List.{List, [], _∷_, _++_, map}
 use mathlib.Core.Path.{_≡_, refl}

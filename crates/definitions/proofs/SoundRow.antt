@@ -4,11 +4,11 @@ use mathlib.Core.Bool.{Bool, true, false, cond, _&&_, _||_, not, false≢true}
 use mathlib.Core.List.{List, [], _∷_}
 use mathlib.Core.Logic.{_⊎_, inl, inr, ⊎-elim}
 use mathlib.Core.Path.{_≡_, refl, ap, ap₂}
-use Prim.Native.Nat.{ℕ, _-_, _≤_}
+use Prim.Native.Nat.{ℕ, _-_, _≤_, _<_}
 use native.Mathlib.Omega.{arith}
 use lib.Dec.{leb, ltb, eqb}
 use lib.ListN.{length, replicate}
-use borrow.Author.Tests.{leb-true, leb-false, eqb-true, not-true, le-leb}
+use borrow.Author.Tests.{leb-true, leb-false, ltb-true, eqb-true, not-true, le-leb}
 use Rattle.ladder.specs.Ladder.{legal}
 use Rattle.definitions.specs.declared.Row.{Row}
 use Rattle.definitions.specs.Codes.{freeMark, openMark, cancelledMark, foreignBoard, sell, limit, mp, maxVolume, isAuction}
@@ -145,11 +145,14 @@ state-marked clock r e =
 pub unmarked-free : (S clock : ℕ) (r : Row) → soundRow S clock r ≡ true → marked r ≡ false → r ≡ freeRow
 unmarked-free S clock r e m = ⊎-elim (zero-free r) (λ h. never (state-marked clock r (h .state)) m) (row-cases S clock r e)
 
--- an open row's cancel time is 0, and a row of type 3 is open with price 0
+-- an open row's cancel time is 0, its number is above 0, and a row of type 3 is open with price 0
 pub open-time : (S clock : ℕ) (r : Row) → soundRow S clock r ≡ true → r .mark ≡ openMark → r .«cancel_time» ≡ 0
 open-time S clock r e m =
     ⊎-elim (λ o. eqb-true (r .«cancel_time») 0 (o .time)) (λ c. absurd (omega (arith, eqb-true (r .mark) cancelledMark (c .mark))))
     (state-cases clock r (row-marked S clock r e (rw m) .state))
+
+pub open-number : (S clock : ℕ) (r : Row) → soundRow S clock r ≡ true → r .mark ≡ openMark → 0 < r .number
+open-number S clock r e m = ltb-true 0 (r .number) (row-marked S clock r e (rw m) .number)
 
 pub record MpRow (r : Row) : Type 0 where
   pub mark : r .mark ≡ openMark
@@ -213,8 +216,8 @@ pub matched-frees : (P : Row → Type 0) (number volume : ℕ) (r : Row) → P f
     → (openWith number r ≡ true → leb (r .volume) volume ≡ false → P (withVolume (r .volume - volume) r)) → P (matchedRow number volume r)
 matched-frees P number volume r free left lowers = either P (openWith number r) _ r (λ opened. either P _ freeRow _ (λ _. free) (lowers opened)) (λ _. left)
 
-pub rest-frees : (P : Row → Type 0) (number price : ℕ) (r : Row) → P r → (openMpWith number r ≡ true → P (limitAt price r)) → P (restRow number price r)
-rest-frees P number price r left limited = either P (openMpWith number r) (limitAt price r) r limited (λ _. left)
+pub rest-changes : (P : Row → Type 0) (number price : ℕ) (r : Row) → P r → (openMpWith number r ≡ true → P (limitAt price r)) → P (restRow number price r)
+rest-changes P number price r left limited = either P (openMpWith number r) (limitAt price r) r limited (λ _. left)
 
 -- the changes leave a row sound
 module _ (S clock : ℕ) where
@@ -294,7 +297,7 @@ module _ (S clock : ℕ) where
 
   pub rest-sound : (number price : ℕ) → legal price ≡ true → (r : Row) → soundRow S clock r ≡ true → soundRow S clock (restRow number price r) ≡ true
   rest-sound number price on-ladder r e =
-      rest-frees Sound number price r e
+      rest-changes Sound number price r e
       (λ opened. limitAt-sound price on-ladder r (row-marked S clock r e (open-marked number r (and-parts (openWith number r) (eqb (r .«order_type») mp) opened .0))))
 
 -- they mark none anew, and a row that stays keeps its number
@@ -320,7 +323,7 @@ pub matched-kept : (number volume : ℕ) → KeepsNumbers (matchedRow number vol
 matched-kept number volume r = matched-frees (Kept r) number volume r (gone r) (stays r) (λ _ _ m. (m, refl))
 
 pub rest-kept : (number price : ℕ) → KeepsNumbers (restRow number price)
-rest-kept number price r = rest-frees (Kept r) number price r (stays r) (λ _ m. (m, refl))
+rest-kept number price r = rest-changes (Kept r) number price r (stays r) (λ _ m. (m, refl))
 
 -- the three marks that a sound row may have
 mark-cases : (S clock : ℕ) (r : Row) → soundRow S clock r ≡ true

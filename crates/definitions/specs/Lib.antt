@@ -1,4 +1,5 @@
--- Paper 01 as definitions, each file after those that it names.
+-- Paper 01, and paper 02 as far as it has landed, as definitions, each file after those that it names. A file is named for its place in paper 01; what comes from
+-- paper 02 says so where it stands.
 pub mod Lists
 pub mod Codes
 pub mod State

@@ -43,7 +43,8 @@ loneDone a w d = (a, record { market = w; desk = d })
 abbrev pub loneVerdict : Lone → Order → Verdict
 loneVerdict l o = verdictOf (loneView l (o .security)) o
 
--- "Kind 2 with another session sets it, makes each projected price absent and removes the desk's ATO and ATC rows."
+-- "Kind 2 with another session sets it, makes each projected price absent and removes the desk's ATO and ATC rows." Rows of type 3
+-- go as ATO rows do (paper 02, 1).
 abbrev pub loneSession : Lone → ℕ → Answer × Lone
 loneSession l s =
     cond (eqb s (headerOf (l .market) .session)) (loneDone answer.Ok (l .market) (l .desk))

@@ -1,4 +1,4 @@
-// The records, events and answers of paper 01, as the code has them. What they mean stands in specs/. No code.
+// The records, events and answers of papers 01 and 02, as the code has them. What they mean stands in specs/. No code.
 pub mod codes;
 
 use codes::DESK_ROWS;

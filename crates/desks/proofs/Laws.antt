@@ -142,27 +142,27 @@ module _ (clock : ℕ) (o : Order) {d closed : Desk} {n i : ℕ} (c : Closing (e
   closing-full full = stays c full r ∙ closing-added
 
 -- A loop over the rows of d that changes each by f where it stands: i are passed.
-pub record Standing (f : Row → Row) (d limited : Desk) (i : ℕ) : Type 0 where
+pub record InPlace (f : Row → Row) (d after : Desk) (i : ℕ) : Type 0 where
   pub whole : length (d .rows) ≡ deskRows
-  pub desk : limited ≡ withRows (map f (take i (d .rows)) ++ drop i (d .rows)) d
+  pub desk : after ≡ withRows (map f (take i (d .rows)) ++ drop i (d .rows)) d
 
 module _ {f : Row → Row} {d : Desk} where
-  pub standing-start : length (d .rows) ≡ deskRows → Standing f d d 0
-  standing-start whole = record { whole = whole; desk = refl }
+  pub in-place-start : length (d .rows) ≡ deskRows → InPlace f d d 0
+  in-place-start whole = record { whole = whole; desk = refl }
 
-  module _ {limited : Desk} {i : ℕ} (c : Standing f d limited i) where
-    pub standing-next : i < deskRows → (z : Row) {r : Row} → r ≡ f (getD (d .rows) i z) → Standing f d (withRows (set (limited .rows) i r) limited) (i + 1)
-    standing-next h z {r} e =
+  module _ {after : Desk} {i : ℕ} (c : InPlace f d after i) where
+    pub in-place-next : i < deskRows → (z : Row) {r : Row} → r ≡ f (getD (d .rows) i z) → InPlace f d (withRows (set (after .rows) i r) after) (i + 1)
+    in-place-next h z {r} e =
         let within : i < length (d .rows) = omega (arith, c .whole) in
         let front = map f (take i (d .rows)) in
         let rest = drop (i + 1) (d .rows) in
         let sized : length front ≡ i = length-map (take i (d .rows)) f ∙ length-take-le i (d .rows) (omega arith) in
-        let before : limited .rows ≡ front ++ (getD (d .rows) i z ∷ rest) = ap (λ (x : Desk). x .rows) (c .desk) ∙ ap (λ l. front ++ l) (drop-next (d .rows) i z within) in
+        let before : after .rows ≡ front ++ (getD (d .rows) i z ∷ rest) = ap (λ (x : Desk). x .rows) (c .desk) ∙ ap (λ l. front ++ l) (drop-next (d .rows) i z within) in
         let passed : map f (take (i + 1) (d .rows)) ≡ front ++ (r ∷ []) = rw (take-next (d .rows) i z within, map-append, e) in
-        let after : set (limited .rows) i r ≡ map f (take (i + 1) (d .rows)) ++ rest = rw (before, passed, append-snoc front r rest) (set-at front (getD (d .rows) i z) rest r i sized) in
-        record { whole = c .whole; desk = ap (λ (x : Desk). withRows (set (limited .rows) i r) x) (c .desk) ∙ ap (λ rows. withRows rows d) after }
+        let written : set (after .rows) i r ≡ map f (take (i + 1) (d .rows)) ++ rest = rw (before, passed, append-snoc front r rest) (set-at front (getD (d .rows) i z) rest r i sized) in
+        record { whole = c .whole; desk = ap (λ (x : Desk). withRows (set (after .rows) i r) x) (c .desk) ∙ ap (λ rows. withRows rows d) written }
 
-    pub standing-end : deskRows ≤ i → limited ≡ withRows (map f (d .rows)) d
-    standing-end h =
+    pub in-place-end : deskRows ≤ i → after ≡ withRows (map f (d .rows)) d
+    in-place-end h =
         let past : length (d .rows) ≤ i = omega (arith, c .whole) in
         c .desk ∙ rw (take-all i (d .rows) past, drop-of-length-le (d .rows) past, append-nil)

@@ -1,4 +1,4 @@
-// Paper 01, "Events": the bytes of one event, read whole or refused before any rule looks at them.
+// Paper 01, "Events", and paper 02's kinds: the bytes of one event, read whole or refused before any rule looks at them.
 ghost use mathlib.Core.Path.{_≡_};
 ghost use Prim.Native.Nat.{_+_, _*_, _≤_, _<_};
 ghost use lib.ListN.{length, getD};

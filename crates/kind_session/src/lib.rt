@@ -41,7 +41,7 @@ fn clear_projected(words: &mut [u32])
     }
 }
 
-// "removes all ATO and ATC rows"
+// "removes all ATO and ATC rows", and those of type 3
 fn change_desks(words: &mut [u32])
     requires { ⌜ length (now words) ≡ stateSize (headerOf (now words) .customers) (headerOf (now words) .securities) ⌝ }
     ensures { λ _. ⌜ now (words .exit) ≡ each (headerOf (now (words .entry)) .customers) (changeDesk (changed sessionRow)) (now (words .entry)) ⌝ }

@@ -8,7 +8,7 @@ use second::event::{Event, decode};
 /// Whole MP orders are counted apart from the other events of kind 5: only so
 /// is it seen that refusal 12 came from them.
 const EMPTY: usize = 9;
-const MARKET_ORDER: usize = 10;
+const MP_ORDER: usize = 10;
 const KINDS: usize = 11;
 
 /// The answers that each of them can get, by the paper's table.
@@ -93,7 +93,7 @@ impl Tally {
 /// Where an event is counted.
 fn place(event: &[u8]) -> usize {
     match decode(event) {
-        Ok(Event::Order(order)) if order.order_type == OrderType::Mp as u8 => MARKET_ORDER,
+        Ok(Event::Order(order)) if order.order_type == OrderType::Mp as u8 => MP_ORDER,
         _ => match event.first() {
             None => EMPTY,
             Some(&kind @ 1..=8) => usize::from(kind),
@@ -125,7 +125,7 @@ fn kind_words(kind: usize) -> String {
     match kind {
         0 => "unknown kinds".into(),
         EMPTY => "no bytes".into(),
-        MARKET_ORDER => "MP orders".into(),
+        MP_ORDER => "MP orders".into(),
         _ => format!("kind {kind}"),
     }
 }

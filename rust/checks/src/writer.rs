@@ -398,7 +398,7 @@ impl Writer {
     }
 
     /// An MP order that finds a best price, for a rest to come.
-    fn market_order(&mut self, customer: u16) -> Vec<u8> {
+    fn mp_order(&mut self, customer: u16) -> Vec<u8> {
         let (security, _, board) = self.quoted();
         let lot = self.security(security).lot;
         let desk = self.desk(customer);
@@ -423,7 +423,7 @@ impl Writer {
         let (customer, row) = self.customer_with(|row| any || row.order_type == OrderType::Mp);
         let Some(row) = row else {
             if self.header().session == Session::Open && !self.random.once_in(4) {
-                return self.market_order(customer);
+                return self.mp_order(customer);
             }
             let number = 1 + self.random.below(60);
             return encode::rest(customer, number, step(middle(&mut self.random), 0));
