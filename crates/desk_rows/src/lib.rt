@@ -1,7 +1,7 @@
 // Paper 01, "Events", and paper 02, 1: what becomes of one row, and what is asked of one.
 ghost use mathlib.Core.Path.{_≡_};
 ghost use Rattle.definitions.specs.Codes.{isAuction};
-ghost use Rattle.definitions.specs.Desks.{cancelledInMinute, cancelledRow, expiredRow, freeRow, inMinute, matchedRow, openOrInMinute, openWith, restRow, rowOfOrder, sessionRow};
+ghost use Rattle.definitions.specs.Desks.{cancelledInMinute, cancelledRow, expiredRow, freeRow, inMinute, matchedRow, openOrInMinute, openMpWith, openWith, restRow, rowOfOrder, sessionRow};
 ghost use Rattle.definitions.specs.Refusals.{holdsNumber};
 use definitions::Order;
 use definitions::Row;
@@ -62,6 +62,14 @@ fn open_with(number: u32, r: Row) -> bool
     ensures { λ t. ⌜ t ≡ openWith number r ⌝ }
 {
     (r.number == number) && (r.mark == OPEN_MARK)
+}
+
+// Paper 02, 1: "an open type 3 row"
+pub fn open_mp_with(number: u32, r: Row) -> bool
+    ensures { λ t. ⌜ t ≡ openMpWith number r ⌝ }
+{
+    let open = open_with(number, r);
+    open & (r.order_type == MP)
 }
 
 // "ATO and ATC"
@@ -127,10 +135,7 @@ pub fn matched_row(number: u32, volume: u32, r: Row) -> Row
 pub fn rest_row(number: u32, price: u32, r: Row) -> Row
     ensures { λ s. ⌜ s ≡ restRow number price r ⌝ }
 {
-    if !open_with(number, r) {
-        return r;
-    }
-    if r.order_type != MP {
+    if !open_mp_with(number, r) {
         return r;
     }
     let mut limited = r;

@@ -13,13 +13,13 @@ use definitions::Desk;
 use definitions::Order;
 use definitions::Row;
 use definitions::codes::DESK_ROWS;
-use definitions::codes::MP;
 use definitions::codes::OPEN_MARK;
 use desk_rows::cancelled_row;
 use desk_rows::expired_row;
 use desk_rows::free_row;
 use desk_rows::holds_number;
 use desk_rows::matched_row;
+use desk_rows::open_mp_with;
 use desk_rows::open_or_in_minute;
 use desk_rows::rest_row;
 use desk_rows::row_of_order;
@@ -116,8 +116,7 @@ pub fn added(clock: u32, o: Order, d: Desk) -> Desk
     closed
 }
 
-// The row that 9, 10 and 11 look for: an open one with the number; or also one cancelled at most 60,000 ms ago; or only an open one with less than the volume,
-// or of type 3.
+// The row that 9, 10 and 11 look for: an open one with the number; or also one cancelled at most 60,000 ms ago; or only an open one with less than the volume.
 // By flags that is_wanted joins without a branch: a loop that branches on what is looked for is not compiled into its callers, and each call copies the desk.
 struct Wanted {
     number: u32,
@@ -125,11 +124,10 @@ struct Wanted {
     clock: u32,
     only_below: bool,
     volume: u32,
-    only_mp: bool,
 }
 
 fn wanted_open(number: u32) -> Wanted
-    ensures { λ w. ⌜ w ≡ wanted number false 0 false 0 false ⌝ }
+    ensures { λ w. ⌜ w ≡ wanted number false 0 false 0 ⌝ }
 {
     Wanted {
         number: number,
@@ -137,7 +135,6 @@ fn wanted_open(number: u32) -> Wanted
         clock: 0,
         only_below: false,
         volume: 0,
-        only_mp: false,
     }
 }
 
@@ -146,11 +143,7 @@ fn is_wanted(w: Wanted, r: Row) -> bool
 {
     // An open row holds its number at any clock.
     let held = holds_number(w.clock, w.number, r);
-    held
-        & (w.or_in_minute
-            | ((r.mark == OPEN_MARK)
-                & (!w.only_below | (r.volume < w.volume))
-                & (!w.only_mp | (r.order_type == MP))))
+    held & (w.or_in_minute | ((r.mark == OPEN_MARK) & (!w.only_below | (r.volume < w.volume))))
 }
 
 fn found(w: Wanted, d: Desk) -> bool
@@ -183,15 +176,6 @@ pub fn number_open(number: u32, d: Desk) -> bool
     found(wanted_open(number), d)
 }
 
-// 10, of kind 8: "without such a row", an open one of type 3, where this is false
-pub fn mp_open(number: u32, d: Desk) -> bool
-    ensures { λ r. ⌜ r ≡ any (openMpWith number) (d .rows) ⌝ }
-{
-    let mut w = wanted_open(number);
-    w.only_mp = true;
-    found(w, d)
-}
-
 // 11: "match volume .. above the row's"
 pub fn volume_short(number: u32, volume: u32, d: Desk) -> bool
     ensures { λ r. ⌜ r ≡ any (openBelow number volume) (d .rows) ⌝ }
@@ -214,6 +198,20 @@ pub fn full(clock: u32, d: Desk) -> bool
         i += 1;
     }
     true
+}
+
+// 10, of kind 8: "without such a row", an open one of type 3, where this is false. A loop of its own: a third flag would cost orders and cancels some 3%.
+pub fn mp_open(number: u32, d: Desk) -> bool
+    ensures { λ r. ⌜ r ≡ any (openMpWith number) (d .rows) ⌝ }
+{
+    let mut i: usize = 0;
+    while i < DESK_ROWS {
+        if open_mp_with(number, d.rows[i]) {
+            return true;
+        }
+        i += 1;
+    }
+    false
 }
 
 // The desk that rows are put on one after the other, so that they close up.
