@@ -19,7 +19,7 @@ use Rattle.definitions.specs.declared.Rest.{Rest}
 use Rattle.definitions.specs.declared.Counter.{Counter}
 use Rattle.definitions.specs.declared.Event.the-variants as event
 use Rattle.definitions.specs.declared.Answer.the-variants as answer
-use Rattle.definitions.specs.Codes.{openMark, limit, mp, deskRows}
+use Rattle.definitions.specs.Codes.{openMark, limit, mp, online}
 use Rattle.definitions.specs.Lists.{any, all, keep, count, firstMet}
 use Rattle.definitions.specs.State.{row, headerOf, deskAt, putDesk}
 use Rattle.definitions.specs.Sound.{marked, soundRow, markedFirst, soundDesk}
@@ -185,6 +185,6 @@ withoutMpRows v = record { market = v .market; desk = withRows (keep (λ (r : Ro
 pub w-without-mp-rows : (v : View) (o : Order) → ruleW (withoutMpRows v) o ≡ ruleW v o
 unfolding ruleW
 w-without-mp-rows v o =
-    ap (λ (t : Bool). eqb (o .channel) 1 && t)
+    ap (λ (t : Bool). eqb (o .channel) online && t)
     (any-keep (tradesWithOwn _ _ o) (λ (r : Row). not (eqb (r .«order_type») mp))
     (λ r other. mp-unmet _ _ o r (eqb-true (r .«order_type») mp (not-false _ other))) (v .desk .rows))
