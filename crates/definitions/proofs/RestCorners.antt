@@ -8,7 +8,7 @@ use Rattle.definitions.specs.declared.Verdict.{Verdict}
 use Rattle.definitions.specs.declared.Verdict.the-variants.{RejectS, RejectV, RejectW, Accept}
 use Rattle.definitions.proofs.Bytes.{session, cancel, match, rest}
 use Rattle.definitions.proofs.Run.{resultOn, performedOn}
-use Rattle.definitions.proofs.Corner.{Corner, Entry, found, performed, right, refused, done, verdict, judged, written, joined, state, sessionAt, securityAt, deskAt, rowAt, security, plain, traded, untraded, desk, main, foreign, buy, sell, limit, ato, atc, mp, office, online, dma, entry, bytesOf, opened, cancelled}
+use Rattle.definitions.proofs.Corner.{Corner, Entry, found, performed, right, refused, done, verdict, judged, written, state, sessionAt, securityAt, deskAt, rowAt, security, plain, traded, untraded, desk, main, foreign, buy, sell, limit, ato, atc, mp, office, online, dma, entry, bytesOf, opened, cancelled}
 use Rattle.definitions.proofs.Corners.{openRows}
 
 -- limits, MP orders and what is left of them at a price; security, board and side differ from each other in one of them or another
