@@ -1,4 +1,4 @@
-//! The library's seven functions over slices, with its bare numbers. All unsafe
+//! The library's nine functions over slices, with its bare numbers. All unsafe
 //! code of the crate is here.
 //!
 //! Every function is total: any words and any bytes may be handed in, and a
@@ -39,6 +39,10 @@ unsafe extern "C" {
     ) -> usize;
 
     safe fn guvontsira_position(price: u32) -> u32;
+
+    safe fn guvontsira_lower_position(price: u32) -> u32;
+
+    safe fn guvontsira_upper_position(price: u32) -> u32;
 
     safe fn guvontsira_price(position: u32) -> u32;
 
@@ -99,6 +103,18 @@ pub fn run_list(words: &mut [u32], events: &[u8], lengths: &[usize], answers: &m
 /// The ladder position of a price in satang; 0 if it is off the ladder.
 pub fn position(price: u32) -> u32 {
     guvontsira_position(price)
+}
+
+/// The nearest ladder position at or below a price in satang; 0 if it is not 1
+/// to 10,000,000.
+pub fn lower_position(price: u32) -> u32 {
+    guvontsira_lower_position(price)
+}
+
+/// The nearest ladder position at or above a price in satang; 0 if it is not 1
+/// to 10,000,000.
+pub fn upper_position(price: u32) -> u32 {
+    guvontsira_upper_position(price)
 }
 
 /// The price in satang at a ladder position; 0 if there is no such position.
