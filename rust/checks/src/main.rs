@@ -17,6 +17,7 @@ mod make;
 mod malformed;
 mod mixture;
 mod own_orders;
+mod places;
 mod prices;
 mod program;
 mod random;
