@@ -1,6 +1,6 @@
 // What a user links: the gate and the ladder under C's calling convention. Answers are numbers (crates/definitions/specs/Answers.antt).
 ghost use mathlib.Core.Path.{_≡_};
-ghost use Rattle.ladder.specs.Ladder.{positionOf, positionNumber, priceAt};
+ghost use Rattle.ladder.specs.Ladder.{lowerNumber, nearestTo, positionOf, positionNumber, priceAt, upperNumber};
 ghost use Rattle.definitions.specs.Answers.{answerNumber};
 ghost use Rattle.definitions.specs.Gate.{answerOf, wordsOf, outcome, made};
 ghost use lib.ListN.{length, take};
@@ -56,6 +56,22 @@ pub extern "C" fn guvontsira_position(price: u32) -> u32
     ensures { λ r. ⌜ r ≡ positionNumber (positionOf price) ⌝ }
 {
     Ladder::position_number(Ladder::position(price))
+}
+
+// The nearest position at or below; 0 for a number that is no price.
+#[no_mangle]
+pub extern "C" fn guvontsira_lower_position(price: u32) -> u32
+    ensures { λ r. ⌜ r ≡ lowerNumber (nearestTo price) ⌝ }
+{
+    Ladder::lower_number(Ladder::nearest(price))
+}
+
+// The nearest position at or above; 0 for a number that is no price.
+#[no_mangle]
+pub extern "C" fn guvontsira_upper_position(price: u32) -> u32
+    ensures { λ r. ⌜ r ≡ upperNumber (nearestTo price) ⌝ }
+{
+    Ladder::upper_number(Ladder::nearest(price))
 }
 
 // 0 for a number that is no position.

@@ -3,7 +3,7 @@
 use mathlib.Core.Bool.{Bool, true, false, _&&_, cond}
 use mathlib.Core.List.{List, [], _∷_}
 use mathlib.Core.Path.{_≡_, refl}
-use Prim.Native.Nat.{ℕ, zero, suc, _≤_, _<_}
+use Prim.Native.Nat.{ℕ, zero, suc, _+_, _≤_, _<_}
 use native.Mathlib.Nat.{le-refl, le-of-suc-le-suc, not-suc-le-zero}
 use native.Mathlib.Omega.{arith}
 use lib.Dec.{T, leb, ltb, eqb, ltb→lt, eqb→eq}
@@ -132,6 +132,24 @@ band-of-position p (next {b = b} {c = c} {cs = cs} m rest) h =
     (λ t.
     let below : p < priceIn b (c .first) = omega (arith, m .from, leb-false (c .from) p t) in
     rw (lt-leb (c .first) (positionIn b p) (step.position-below b (m .steps) p (c .first) h (omega (arith, m .later)) below)))
+
+-- the next position's price is above, in the price's own band or as the first of a later one
+pub below-next : (p : ℕ) {b : Band} {cs : List Band} → Chained b cs → b .from ≤ p → p < priceBy b cs (positionIn (lastBand (λ d. d .from) p b cs) p + 1)
+unfolding lastBand
+below-next p (last {b = b} steps) h = step.below-next b steps p h
+below-next p (next {b = b} {c = c} {cs = cs} m rest) h =
+    let further = below-next p rest in
+    split (λ d. p < priceIn (cond (leb (c .first) (positionIn d p + 1)) (lastBand (λ e. e .first) (positionIn d p + 1) c cs) b) (positionIn d p + 1)) b (lastBand (λ e. e .from) p c cs) (leb (c .from) p)
+    (λ t.
+    let reached : c .from ≤ p = leb-true (c .from) p t in
+    let later = position-starts p rest reached in
+    rw (le-leb (c .first) (positionIn (lastBand (λ e. e .from) p c cs) p + 1) (omega (arith, later))) (further reached))
+    (λ t.
+    let before : p < c .from = leb-false (c .from) p t in
+    let k = positionIn b p + 1 in
+    split (λ d. p < priceIn d k) b (lastBand (λ e. e .first) k c cs) (leb (c .first) k)
+    (λ tk. omega (arith, starts k rest (leb-true (c .first) k tk), before))
+    (λ _. step.below-next b (m .steps) p h))
 
 -- Where the search stops, by a key that grows from band to band: at the i-th band, if that begins at n or below and the next one above n.
 module _ (key : Band → ℕ) where

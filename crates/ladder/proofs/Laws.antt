@@ -158,26 +158,51 @@ at-means : (t : Bool) (n k : ℕ) → cond t (At n) Off ≡ At k → (t ≡ true
 at-means true n k e = (refl, cc)
 at-means false n k e = let no-such : _≡_ {A = ℕ} 0 1 = cc in absurd (omega arith)
 
+-- the position that its band gives to a price, legal or not: one of the ladder, whose price is at or below and the next one's above
+pub record Lower (p k : ℕ) : Type 0 where
+  pub from-first : 1 ≤ k
+  pub to-last : k ≤ positions
+  pub price : priceAt k ≤ p
+  pub next : k < positions → p < priceAt (k + 1)
+
+lower-from-first : (p : ℕ) → firstPrice ≤ p → 1 ≤ positionIn (bandOfPrice p) p
+unfolding bandOfPrice
+lower-from-first p above = chain.position-starts p chained above
+
+lower-price : (p : ℕ) → firstPrice ≤ p → stepPrice (positionIn (bandOfPrice p) p) ≤ p
+unfolding stepPrice
+lower-price p above = rw (band-position p above) (step.price-at-or-below (bandOfPrice p) (band-step p) p (band-from p above))
+
+lower-to-last : (p : ℕ) → firstPrice ≤ p → p ≤ lastPrice → positionIn (bandOfPrice p) p ≤ positions
+lower-to-last p above below =
+    let never : ¬ (positions < positionIn (bandOfPrice p) p) = λ past. omega (arith, step-last, step-grows positions (positionIn (bandOfPrice p) p) (lit≤ tt) past, lower-price p above) in
+    omega arith
+
+lower-next : (p : ℕ) → firstPrice ≤ p → p < stepPrice (positionIn (bandOfPrice p) p + 1)
+unfolding stepPrice bandOfPrice bandOfPosition
+lower-next p above = chain.below-next p chained above
+
+pub lower : (p : ℕ) → firstPrice ≤ p → p ≤ lastPrice → Lower p (positionIn (bandOfPrice p) p)
+lower p above below =
+    let first = lower-from-first p above in
+    let last = lower-to-last p above below in
+    record {
+      from-first = first;
+      to-last = last;
+      price = rw (price-at _ first last) (lower-price p above);
+      next = λ more. rw (price-at (positionIn (bandOfPrice p) p + 1) (omega arith) (omega arith)) (lower-next p above);
+    }
+
 legal-step : (p : ℕ) → Legal p → stepPrice (positionIn (bandOfPrice p) p) ≡ p
 unfolding stepPrice
 legal-step p h =
     ap (λ b. priceIn b (positionIn (bandOfPrice p) p)) (band-position p (h .above))
     ∙ step.price-position (bandOfPrice p) (band-step p) p (band-from p (h .above)) (h .on)
 
-legal-from-first : (p : ℕ) → Legal p → 1 ≤ positionIn (bandOfPrice p) p
-unfolding bandOfPrice
-legal-from-first p h = chain.position-starts p chained (h .above)
-
-legal-to-last : (p : ℕ) → Legal p → positionIn (bandOfPrice p) p ≤ positions
-legal-to-last p h =
-    let never : ¬ (positions < positionIn (bandOfPrice p) p) = λ past. omega (arith, step-last, step-grows positions (positionIn (bandOfPrice p) p) (lit≤ tt) past, legal-step p h, h .below) in
-    omega arith
-
 pub legal-has : (p : ℕ) → Legal p → Has p (positionIn (bandOfPrice p) p)
 legal-has p h =
-    let first = legal-from-first p h in
-    let last = legal-to-last p h in
-    record { legal = h; from-first = first; to-last = last; price = price-at _ first last ∙ legal-step p h }
+    let there = lower p (h .above) (h .below) in
+    record { legal = h; from-first = there .from-first; to-last = there .to-last; price = price-at _ (there .from-first) (there .to-last) ∙ legal-step p h }
 
 pub legal-position : (p : ℕ) {b : Band} → b ≡ bandOfPrice p → legal p ≡ true → At (positionIn b p) ≡ positionOf p
 unfolding positionOf
@@ -199,7 +224,7 @@ price-grows zero k less last = rw (price-none-below 0 (lit≤ tt), price-at k le
 price-grows (suc j) k less last =
     rw (price-at (suc j) (omega arith) (omega arith), price-at k (omega arith) last) (step-grows (suc j) k (omega arith) less)
 
-price-order : (j k : ℕ) → j ≤ positions → priceAt j < priceAt k → j < k
+pub price-order : (j k : ℕ) → j ≤ positions → priceAt j < priceAt k → j < k
 price-order j k last less =
     let differ : ¬ (j ≡ k) = λ same. omega (arith, ap priceAt same) in
     let never : ¬ (k < j) = λ more. omega (arith, price-grows k j more last) in

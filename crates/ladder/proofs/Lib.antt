@@ -2,3 +2,4 @@ pub mod Table
 pub mod Step
 pub mod Chain
 pub mod Laws
+pub mod NearestLaws

@@ -2,8 +2,8 @@
 -- Assumes nothing.
 use mathlib.Core.Bool.{true}
 use mathlib.Core.Path.{_≡_, ap, _∙_}
-use Prim.Native.Nat.{ℕ, _+_, _-_, _*_, _/_, _%_, _≤_, _<_}
-use native.Mathlib.Nat.{mul-comm, mul-lt-mul-of-pos-left, div-lt-iff-lt-mul, mul-div-cancel-left, mul-mod-right, div-add-mod}
+use Prim.Native.Nat.{ℕ, suc, _+_, _-_, _*_, _/_, _%_, _≤_, _<_}
+use native.Mathlib.Nat.{mul-comm, mul-lt-mul-of-pos-left, div-lt-iff-lt-mul, mul-div-cancel-left, mul-mod-right, div-add-mod, mod-lt, mul-suc}
 use native.Mathlib.Omega.{arith}
 use borrow.Author.Tests.{eq-eqb, eqb-true}
 use Rattle.ladder.specs.declared.Band.{Band}
@@ -37,3 +37,17 @@ module _ (b : Band) (steps : 0 < b .step) where
       let none : (p - b .from) % b .step ≡ 0 = eqb-true _ 0 on in
       let same : b .step * (positionIn b p - b .first) ≡ b .step * ((p - b .from) / b .step) = ap (λ (n : ℕ). b .step * n) above in
       omega arith
+
+  -- a price between two steps stands at or above the one's price and below the other's
+  pub price-at-or-below : (p : ℕ) → b .from ≤ p → priceIn b (positionIn b p) ≤ p
+  price-at-or-below p from =
+      let above : positionIn b p - b .first ≡ (p - b .from) / b .step = omega arith in
+      let same : b .step * (positionIn b p - b .first) ≡ b .step * ((p - b .from) / b .step) = ap (λ (n : ℕ). b .step * n) above in
+      omega (arith, div-add-mod (p - b .from) (b .step))
+
+  pub below-next : (p : ℕ) → b .from ≤ p → p < priceIn b (positionIn b p + 1)
+  below-next p from =
+      let quotient = (p - b .from) / b .step in
+      let above : positionIn b p + 1 - b .first ≡ suc quotient = omega arith in
+      let one-more : b .step * (positionIn b p + 1 - b .first) ≡ b .step * quotient + b .step = ap (λ (n : ℕ). b .step * n) above ∙ mul-suc (b .step) quotient in
+      omega (arith, div-add-mod (p - b .from) (b .step), mod-lt (p - b .from) steps)

@@ -8,6 +8,9 @@ use lib.ListN.{getD}
 use Rattle.ladder.specs.declared.Band.{Band}
 use Rattle.ladder.specs.declared.Position.{Position}
 use Rattle.ladder.specs.declared.Position.the-variants.{At, Off}
+use Rattle.ladder.specs.declared.NearestPositions.{NearestPositions}
+use Rattle.ladder.specs.declared.Nearest.{Nearest}
+use Rattle.ladder.specs.declared.Nearest.the-variants.{Positions, None}
 use Rattle.ladder.specs.Bands.{lowest, higher, firstPrice, lastPrice, positions}
 
 -- the last of the bands, b first, whose key is at most n
@@ -31,8 +34,12 @@ positionIn b p = b .first + (p - b .from) / b .step
 abbrev pub priceIn : Band → ℕ → ℕ
 priceIn b k = b .from + b .step * (k - b .first)
 
+-- "Prices are whole satang (0.01 baht), 1 to 10,000,000."
+abbrev pub isPrice : ℕ → Bool
+isPrice p = leb firstPrice p && leb p lastPrice
+
 unfoldable pub legal : ℕ → Bool
-legal p = leb firstPrice p && leb p lastPrice && onStep (bandOfPrice p) p
+legal p = isPrice p && onStep (bandOfPrice p) p
 
 unfoldable pub positionOf : ℕ → Position
 positionOf p = cond (legal p) (At (positionIn (bandOfPrice p) p)) Off
@@ -41,6 +48,25 @@ positionOf p = cond (legal p) (At (positionIn (bandOfPrice p) p)) Off
 abbrev pub positionNumber : Position → ℕ
 positionNumber (At k) = k
 positionNumber Off = 0
+
+-- Paper 02, 2: "the nearest position at or below, the nearest at or above, and whether the price is legal". The price is the band's, and from a whole number of
+-- its steps the position at or below is the one at or above too; from any other, that is one further.
+abbrev pub nearestIn : Band → ℕ → NearestPositions
+nearestIn b p =
+    record { lower = positionIn b p; upper = cond (onStep b p) (positionIn b p) (positionIn b p + 1); legal = onStep b p }
+
+-- "for each price from 1 to 10,000,000 ..; for others, none"
+unfoldable pub nearestTo : ℕ → Nearest
+nearestTo p = cond (isPrice p) (Positions (nearestIn (bandOfPrice p) p)) None
+
+-- 0, which is no position, for none
+abbrev pub lowerNumber : Nearest → ℕ
+lowerNumber (Positions n) = n .lower
+lowerNumber None = 0
+
+abbrev pub upperNumber : Nearest → ℕ
+upperNumber (Positions n) = n .upper
+upperNumber None = 0
 
 -- 0, the absent price, for a number that is no position
 unfoldable pub priceAt : ℕ → ℕ

@@ -1,7 +1,7 @@
 // Paper 01, "Prices and the ladder": which prices are legal, and at which position each stands.
 ghost use mathlib.Core.Path.{_≡_};
 ghost use Prim.Native.Nat.{_≤_};
-ghost use Rattle.ladder.specs.Ladder.{StepRule, bandOfPrice, legal, onStep, positionNumber, positionOf, priceAt};
+ghost use Rattle.ladder.specs.Ladder.{StepRule, bandOfPrice, legal, lowerNumber, nearestTo, onStep, positionNumber, positionOf, priceAt, upperNumber};
 
 mod legal_prices;
 
@@ -17,6 +17,19 @@ pub struct Band {
 pub enum Position {
     At(u32),
     Off,
+}
+
+// Paper 02, 2: "the nearest position at or below, the nearest at or above, and whether the price is legal".
+pub struct NearestPositions {
+    pub lower: u32,
+    pub upper: u32,
+    pub legal: bool,
+}
+
+// "for others, none"
+pub enum Nearest {
+    Positions(NearestPositions),
+    None,
 }
 
 // The prices at two positions.
@@ -63,6 +76,52 @@ impl Ladder {
         match p {
             Position::At(k) => k,
             Position::Off => 0,
+        }
+    }
+
+    // Between two steps the position follows by the price's own band, as on a step: the table of prices is not searched.
+    pub fn nearest(price: u32) -> Nearest
+        ensures { λ r. ⌜ r ≡ nearestTo price ⌝ }
+    {
+        if price < Ladder::FIRST_PRICE {
+            return Nearest::None;
+        }
+        if Ladder::LAST_PRICE < price {
+            return Nearest::None;
+        }
+        let band = band_of(price);
+        let above = price - band.from;
+        let lower = band.first + above / band.step;
+        if above % band.step == 0 {
+            return Nearest::Positions(NearestPositions {
+                lower,
+                upper: lower,
+                legal: true,
+            });
+        }
+        Nearest::Positions(NearestPositions {
+            lower,
+            upper: lower + 1,
+            legal: false,
+        })
+    }
+
+    // 0, which is no position, for none.
+    pub fn lower_number(n: Nearest) -> u32
+        ensures { λ r. ⌜ r ≡ lowerNumber n ⌝ }
+    {
+        match n {
+            Nearest::Positions(positions) => positions.lower,
+            Nearest::None => 0,
+        }
+    }
+
+    pub fn upper_number(n: Nearest) -> u32
+        ensures { λ r. ⌜ r ≡ upperNumber n ⌝ }
+    {
+        match n {
+            Nearest::Positions(positions) => positions.upper,
+            Nearest::None => 0,
         }
     }
 
