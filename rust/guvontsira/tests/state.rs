@@ -2,7 +2,7 @@
 
 use guvontsira::{
     Answer, Board, Channel, Event, Mark, OrderType, Prices, Row, Rule, Security, Session, Side,
-    State, Time, VERSION, library, position, price,
+    State, Time, VERSION, library,
 };
 
 fn answers(state: &mut State, text: &str) -> Vec<String> {
@@ -357,17 +357,4 @@ fn runs_of_any_length() {
     assert_eq!((handled, numbers), (3, [0, 0, 3, 77]));
     let handled = library::run(&mut state.words().to_vec(), &shortest, &mut numbers[..2]);
     assert_eq!(handled, 2);
-}
-
-#[test]
-fn ladder() {
-    assert_eq!(position(1), Some(1));
-    assert_eq!(position(1_99), Some(199));
-    assert_eq!(position(10_000_000), Some(51_100));
-    assert_eq!(position(0), None);
-    assert_eq!(position(2_01), None);
-    assert_eq!(position(10_000_200), None);
-    assert_eq!(price(51_100), Some(10_000_000));
-    assert_eq!(price(0), None);
-    assert_eq!(price(51_101), None);
 }
