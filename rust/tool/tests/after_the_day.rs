@@ -151,7 +151,7 @@ fn ladder() {
     assert_eq!(
         out(&["ladder", "50.00"], b""),
         "\
-50.00 is position 700
+50.00 is legal, position 700
 next below  49.75
 next above  50.25
 
@@ -161,21 +161,60 @@ legal within   from     to  outside
 50 percent    25.00  75.00  reject Q
 "
     );
-    let table = [
-        (
-            "0.01",
-            "0.01 is position 1\nnext below  -\nnext above  0.02\n",
-        ),
-        (
-            "65.60",
-            "65.60 is no legal price\nnext below  65.50\nnext above  65.75\n",
-        ),
-        (
-            "100000.00",
-            "100000.00 is position 51100\nnext below  99998.00\nnext above  -\n",
-        ),
-    ];
-    for (price, lines) in table {
-        assert!(out(&["ladder", price], b"").starts_with(lines), "{price}");
-    }
+    assert_eq!(
+        out(&["ladder", "0.01"], b""),
+        "\
+0.01 is legal, position 1
+next below  -
+next above  0.02
+
+legal within  from    to  outside
+10 positions  0.01  0.11  warn 10
+30 percent    0.01  0.01  warn 30
+50 percent    0.01  0.01  reject Q
+"
+    );
+    assert_eq!(
+        out(&["ladder", "100000.00"], b""),
+        "\
+100000.00 is legal, position 51100
+next below  99998.00
+next above  -
+
+legal within      from         to  outside
+10 positions  99980.00  100000.00  warn 10
+30 percent    70000.00  100000.00  warn 30
+50 percent    50000.00  100000.00  reject Q
+"
+    );
+}
+
+#[test]
+fn ladder_between_two_steps() {
+    assert_eq!(
+        out(&["ladder", "65.60"], b""),
+        "\
+65.60 is not legal, lower position 762 (65.50), upper position 763 (65.75)
+next below  65.50
+next above  65.75
+
+legal within   from     to  outside
+10 positions  63.25  68.00  warn 10
+30 percent    46.00  85.25  warn 30
+50 percent    33.00  98.25  reject Q
+"
+    );
+    assert_eq!(
+        out(&["ladder", "99999.99"], b""),
+        "\
+99999.99 is not legal, lower position 51099 (99998.00), upper position 51100 (100000.00)
+next below  99998.00
+next above  100000.00
+
+legal within      from         to  outside
+10 positions  99980.00  100000.00  warn 10
+30 percent    70000.00  100000.00  warn 30
+50 percent    50000.00  100000.00  reject Q
+"
+    );
 }
