@@ -101,10 +101,8 @@ records =
     ∷ badSecurityOf (terms 100 2 0 0 0) untraded untraded
     ∷ badSecurityOf (terms 100 0 2 0 0) untraded untraded
     -- "prices are absent or on the ladder (IPO: 0 to 10,000,000)"
-    ∷ soundSecurity (terms 100 0 0 202 10_000_000) (traded 1 200 10_000_000 6575) (traded 10_000_000 6575 1 200)
-    ∷ soundSecurity (terms 100 0 0 10_000_000 201) untraded untraded
-    ∷ badSecurityOf (terms 100 0 0 201 0) untraded untraded
-    ∷ badSecurityOf (terms 100 0 0 10_000_200 0) untraded untraded
+    ∷ soundSecurity (terms 100 0 0 0 10_000_000) (traded 1 200 10_000_000 6575) (traded 10_000_000 6575 1 200)
+    ∷ soundSecurity (terms 100 0 0 0 201) untraded untraded
     ∷ badSecurityOf (terms 100 0 0 0 10_000_001) untraded untraded
     ∷ badSecurityOf plain (traded 201 0 0 0) untraded
     ∷ badSecurityOf plain (traded 0 201 0 0) untraded

@@ -33,7 +33,7 @@ badCode o =
     ltb foreignBoard (o .board) || ltb sell (o .side) || ltb mp (o .«order_type») || ltb dma (o .channel) || eqb (o .number) 0
 
 -- 5, and of other kinds; 6: "market price or prior close neither absent nor on the ladder; IPO over 10,000,000; limit off the ladder; price not 0 for
--- another type"; 7: "earlier than the state's". Paper 02, 1, of kind 8: "a price off the ladder 6"
+-- another type"; 7: "earlier than the state's". Paper 02, 1, of kind 8: "a price off the ladder 6"; 2: "Refusal 6 .. now take[s] any prior close up to 10,000,000"
 abbrev pub fieldConditions : Header → Event → List (ℕ × Bool)
 fieldConditions h (event.Clock t) = (5, ltb lastTime t) ∷ (7, ltb t (h .clock)) ∷ []
 fieldConditions h (event.Session s) = (5, ltb preClose s) ∷ []

@@ -1,9 +1,11 @@
 -- Paper 01, "Verdicts, first that applies".
-use mathlib.Core.Bool.{Bool, cond, _&&_, _||_, not}
+use mathlib.Core.Bool.{Bool, false, cond, _&&_, _||_, not}
 use mathlib.Core.List.{List, [], _∷_}
 use Prim.Native.Nat.{ℕ, _+_, _*_, _%_}
 use lib.Dec.{leb, ltb, eqb}
-use Rattle.ladder.specs.Ladder.{positionOf, positionNumber}
+use Rattle.ladder.specs.declared.Nearest.{Nearest}
+use Rattle.ladder.specs.declared.Nearest.the-variants as nearest
+use Rattle.ladder.specs.Ladder.{positionOf, positionNumber, nearestTo}
 use Rattle.definitions.specs.declared.Prices.{Prices}
 use Rattle.definitions.specs.declared.Security.{Security}
 use Rattle.definitions.specs.declared.Row.{Row}
@@ -145,13 +147,15 @@ warn30 m o =
     && eqb (m .security .terms .free) 1
     && outside 70 130 (reference30 (m .security) (o .board)) (o .price)
 
--- warn 10: "from the projected price, else last sale, else prior close; none, no check"
+-- warn 10: "from the projected price, else last sale, else prior close"
 abbrev pub reference10 : Security → ℕ
 reference10 s = orElse (s .main .projected) (orElse (s .main .«last_sale») (s .prior .close))
 
--- "more than 10 ladder positions"
-abbrev pub tenApart : ℕ → ℕ → Bool
-tenApart j k = ltb (j + 10) k || ltb (k + 10) j
+-- "more than 10 ladder positions"; paper 02, 2, of a reference between two steps: "Warn 10 counts up from the lower and down from the upper position";
+-- "none, no check"
+abbrev pub tenApart : Nearest → ℕ → Bool
+tenApart (nearest.Positions n) k = ltb (n .lower + 10) k || ltb (k + 10) (n .upper)
+tenApart nearest.None k = false
 
 -- "limits, main board, sessions 1 and 4, online and DMA"
 unfoldable pub warn10 : MarketView → Order → Bool
@@ -160,8 +164,7 @@ warn10 m o =
     && eqb (o .board) mainBoard
     && inAuction (m .session)
     && (eqb (o .channel) online || eqb (o .channel) dma)
-    && not (eqb (reference10 (m .security)) 0)
-    && tenApart (positionNumber (positionOf (reference10 (m .security)))) (positionNumber (positionOf (o .price)))
+    && tenApart (nearestTo (reference10 (m .security))) (positionNumber (positionOf (o .price)))
 
 -- "first that applies .. Else accept."
 abbrev pub firstThat : List (Bool × Verdict) → Verdict

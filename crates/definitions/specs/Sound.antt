@@ -19,12 +19,12 @@ use Rattle.definitions.specs.State.{rowWords}
 abbrev pub soundTerms : Terms → Bool
 soundTerms t = (eqb (t .lot) 1 || eqb (t .lot) 50 || eqb (t .lot) 100) && leb (t .free) 1 && leb (t .«first_day») 1
 
--- "prices are absent or on the ladder (IPO: 0 to 10,000,000)"
+-- "prices are absent or on the ladder (IPO: 0 to 10,000,000)"; paper 02, 2: "soundness now take[s] any prior close up to 10,000,000"
 abbrev pub priceOrAbsent : ℕ → Bool
 priceOrAbsent p = eqb p 0 || legal p
 
 abbrev pub soundPrior : PriorPrices → Bool
-soundPrior p = priceOrAbsent (p .close) && leb (p .ipo) lastPrice
+soundPrior p = leb (p .close) lastPrice && leb (p .ipo) lastPrice
 
 abbrev pub soundPrices : Prices → Bool
 soundPrices p = priceOrAbsent (p .projected) && priceOrAbsent (p .«last_sale») && priceOrAbsent (p .bid) && priceOrAbsent (p .offer)

@@ -6,9 +6,12 @@ use Prim.Native.Nat.{ℕ, _+_, _-_, _≤_, _<_, min}
 use native.Mathlib.Omega.{arith}
 use lib.Dec.{ltb}
 use borrow.Author.Tests.{ltb-true, ltb-false, lt-ltb, le-ltb}
+use Rattle.ladder.specs.declared.NearestPositions.{NearestPositions}
+use Rattle.ladder.specs.declared.Nearest.the-variants.{Positions, None}
 use Rattle.ladder.specs.Bands.{positions}
-use Rattle.ladder.specs.Ladder.{priceAt}
+use Rattle.ladder.specs.Ladder.{nearestTo, priceAt}
 use Rattle.ladder.proofs.Laws.{price-less}
+use Rattle.ladder.proofs.NearestLaws.{nearest-at}
 use Rattle.definitions.specs.Rules.{tenApart}
 
 same-test : (a b c d : ℕ) → (a < b → c < d) → (c < d → a < b) → ltb a b ≡ ltb c d
@@ -28,6 +31,11 @@ below : (j k : ℕ) → j ≤ positions → k ≤ positions → ltb (priceAt k) 
 below j k last last-k =
     price-less k (j - 10) last-k (omega arith) ∙ same-test k (j - 10) (k + 10) j (λ h. omega arith) (λ h. omega arith)
 
-pub by-price : (j k : ℕ) → j ≤ positions → k ≤ positions
-    → (ltb (priceAt (min (j + 10) positions)) (priceAt k) || ltb (priceAt k) (priceAt (j - 10))) ≡ tenApart j k
-by-price j k last last-k = rw (above j k last-k, below j k last last-k)
+-- "none, no check"
+pub none-apart : (reference k : ℕ) → nearestTo reference ≡ None → false ≡ tenApart (nearestTo reference) k
+none-apart reference k e = rw e
+
+-- "counts up from the lower and down from the upper position"
+pub by-price : (reference k : ℕ) {n : NearestPositions} → nearestTo reference ≡ Positions n → k ≤ positions
+    → (ltb (priceAt (min (n .lower + 10) positions)) (priceAt k) || ltb (priceAt k) (priceAt (n .upper - 10))) ≡ tenApart (nearestTo reference) k
+by-price reference k {n} e last = rw (e, above (n .lower) k last, below (n .upper) k (nearest-at reference n e .to-last) last)

@@ -2,7 +2,7 @@
 ghost use mathlib.Core.Path.{_≡_};
 ghost use Prim.Native.Nat.{_+_, _-_, min};
 ghost use Rattle.ladder.specs.Bands.{positions};
-ghost use Rattle.ladder.specs.Ladder.{positionOf, positionNumber, priceAt};
+ghost use Rattle.ladder.specs.Ladder.{nearestTo, positionOf, positionNumber, priceAt};
 ghost use Rattle.definitions.specs.Rules.{tenApart, warn10};
 ghost use Rattle.rule_market.specs.Covered.{coveredBy10};
 use definitions::MarketView;
@@ -12,6 +12,7 @@ use definitions::codes::LIMIT;
 use definitions::codes::MAIN_BOARD;
 use definitions::codes::ONLINE;
 use ladder::Ladder;
+use ladder::Nearest;
 use rule_references::in_auction;
 use rule_references::reference_10;
 
@@ -46,11 +47,15 @@ fn on_ladder(price: u32) -> u32
 }
 
 // Prices stand in the order of their positions: more than ten positions up is above the price that the ladder has there.
+// "Warn 10 counts up from the lower and down from the upper position."
 fn ten_apart(reference: u32, price: u32) -> bool
-    ensures { λ r. ⌜ r ≡ tenApart (positionNumber (positionOf reference)) (positionNumber (positionOf price)) ⌝ }
+    ensures { λ r. ⌜ r ≡ tenApart (nearestTo reference) (positionNumber (positionOf price)) ⌝ }
 {
-    let from = Ladder::position_number(Ladder::position(reference));
-    let range = Ladder::prices(ten_down(from), ten_up(from));
+    let near = Ladder::nearest(reference);
+    let Nearest::Positions(from) = near else {
+        return false;
+    };
+    let range = Ladder::prices(ten_down(from.upper), ten_up(from.lower));
     let to = on_ladder(price);
     (range.high < to) | (to < range.low)
 }
@@ -72,9 +77,5 @@ pub fn warn_10(m: MarketView, o: Order) -> bool
     if !covered_by_10(m.session, o) {
         return false;
     }
-    let reference = reference_10(m.security);
-    if reference == 0 {
-        return false;
-    }
-    ten_apart(reference, o.price)
+    ten_apart(reference_10(m.security), o.price)
 }

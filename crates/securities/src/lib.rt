@@ -90,10 +90,11 @@ fn price_or_absent(p: u32) -> bool
     (p == 0) | Ladder::legal(p)
 }
 
+// An adjusted prior close may stand between two steps.
 pub fn sound_prior(p: PriorPrices) -> bool
     ensures { λ r. ⌜ r ≡ soundPrior p ⌝ }
 {
-    price_or_absent(p.close) & (p.ipo <= Ladder::LAST_PRICE)
+    (p.close <= Ladder::LAST_PRICE) & (p.ipo <= Ladder::LAST_PRICE)
 }
 
 pub fn sound_prices(p: Prices) -> bool

