@@ -32,8 +32,13 @@ pub enum Event {
         /// Whether there is no ceiling and floor.
         free: bool,
         first_day: bool,
+        /// Up to [`MAX_PRICE`], also off the ladder.
+        ///
+        /// [`MAX_PRICE`]: crate::MAX_PRICE
         prior_close: u32,
-        /// Also off the ladder.
+        /// Up to [`MAX_PRICE`], also off the ladder.
+        ///
+        /// [`MAX_PRICE`]: crate::MAX_PRICE
         ipo: u32,
     },
     /// All four prices of one board.

@@ -1,7 +1,10 @@
 //! The ladder: legal prices, their positions, and the positions nearest to the
 //! prices between them.
 
-use guvontsira::{MAX_POSITION, MAX_PRICE, Nearest, nearest, position, price};
+use guvontsira::{
+    Answer, Board, Channel, Event, MAX_POSITION, MAX_PRICE, Nearest, OrderType, Session, Side,
+    State, nearest, position, price,
+};
 
 #[test]
 fn legal_prices() {
@@ -56,4 +59,78 @@ fn every_price() {
     }
     assert_eq!(legal.first(), Some(&1));
     assert_eq!(legal.last(), Some(&MAX_PRICE));
+}
+
+fn setup(prior_close: u32, ipo: u32) -> Event {
+    Event::Setup {
+        security: 0,
+        lot: 100,
+        free: false,
+        first_day: false,
+        prior_close,
+        ipo,
+    }
+}
+
+fn buy(number: u32, price: u32) -> Event {
+    Event::Order {
+        customer: 0,
+        number,
+        security: 0,
+        board: Board::Main,
+        side: Side::Buy,
+        order_type: OrderType::Limit,
+        channel: Channel::Online,
+        price,
+        volume: 100,
+    }
+}
+
+/// Request 2 of paper 02.
+#[test]
+fn an_adjusted_prior_close() {
+    let mut state = State::new(1, 1).unwrap();
+    let session = Session::PreOpen;
+    assert_eq!(state.send(&Event::Session { session }), Answer::Ok);
+    assert_eq!(state.send(&setup(65_60, 0)), Answer::Ok);
+    assert_eq!(state.security(0).unwrap().prior_close, 65_60);
+    let limits = [
+        (68_00, Answer::Accept),
+        (68_25, Answer::Warn10),
+        (63_25, Answer::Accept),
+        (63_00, Answer::Warn10),
+        (65_60, Answer::Refused(6)),
+    ];
+    for ((price, answer), number) in limits.into_iter().zip(1..) {
+        assert_eq!(state.send(&buy(number, price)), answer, "{price}");
+    }
+    let last = Event::Prices {
+        security: 0,
+        board: Board::Main,
+        projected: 0,
+        last: 65_60,
+        bid: 0,
+        offer: 0,
+    };
+    assert_eq!(state.send(&last), Answer::Refused(6));
+}
+
+#[test]
+fn the_last_prior_close() {
+    let mut state = State::new(1, 1).unwrap();
+    assert_eq!(state.send(&setup(MAX_PRICE + 1, 0)), Answer::Refused(6));
+    assert_eq!(state.send(&setup(0, MAX_PRICE + 1)), Answer::Refused(6));
+    assert_eq!(state.send(&setup(MAX_PRICE - 1, MAX_PRICE)), Answer::Ok);
+    // The security's fourth word.
+    for (prior_close, answer) in [
+        (MAX_PRICE, Answer::Ok),
+        (MAX_PRICE + 1, Answer::Refused(8)),
+        (u32::MAX, Answer::Refused(8)),
+    ] {
+        let mut words = state.words().to_vec();
+        words[4 + 3] = prior_close;
+        let mut changed = State::from_words(words);
+        assert_eq!(changed.handle(&[2, 2]), answer, "{prior_close}");
+        assert_eq!(changed.security(0).unwrap().prior_close, prior_close);
+    }
 }

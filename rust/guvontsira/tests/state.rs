@@ -196,7 +196,7 @@ fn a_market() {
         "\
 clock 16:30:00.250
 session pre-close
-setup 2 lot 50 free close 65.50 ipo 12.01
+setup 2 lot 50 free close 65.60 ipo 12.01
 setup 1 lot 1 first-day
 prices 2 main projected 50.00 last 49.75 bid 49.50 offer 50.25
 prices 2 foreign projected 40.00 last 39.75 bid 39.50 offer 40.25
@@ -212,7 +212,7 @@ prices 2 foreign projected 40.00 last 39.75 bid 39.50 offer 40.25
         (security.lot, security.free, security.first_day),
         (50, true, false)
     );
-    assert_eq!((security.prior_close, security.ipo), (65_50, 12_01));
+    assert_eq!((security.prior_close, security.ipo), (65_60, 12_01));
     let main = Prices {
         projected: 50_00,
         last: 49_75,
