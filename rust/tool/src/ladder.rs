@@ -44,7 +44,7 @@ fn standing(price: u32, nearest: Nearest) -> String {
 }
 
 /// Of a price between two steps.
-fn two_positions(nearest: Nearest) -> String {
+pub fn two_positions(nearest: Nearest) -> String {
     let Nearest { lower, upper, .. } = nearest;
     let [below, above] = [lower, upper].map(|position| shown(guvontsira::price(position)));
     format!("lower position {lower} ({below}), upper position {upper} ({above})")
