@@ -1,10 +1,13 @@
 -- Paper 01, "Along each edge": the cases marked to be proved, as entries of one table, and one theorem over the whole; and the edges of paper 02's requests.
+use mathlib.Core.Bool.{true, false}
 use mathlib.Core.List.{List, [], _∷_, _++_, map}
 use mathlib.Core.Path.{_≡_, refl}
 use Prim.Native.Nat.{ℕ, _+_}
 use Rattle.ladder.specs.declared.Position.{Position}
 use Rattle.ladder.specs.declared.Position.the-variants.{At}
-use Rattle.ladder.specs.Ladder.{positionOf, legal, bandOfPrice, lastBand}
+use Rattle.ladder.specs.declared.Nearest.{Nearest}
+use Rattle.ladder.specs.declared.Nearest.the-variants.{Positions, None}
+use Rattle.ladder.specs.Ladder.{positionOf, nearestTo, legal, bandOfPrice, lastBand}
 use Rattle.definitions.specs.declared.Answer.the-variants as answer
 use Rattle.definitions.specs.declared.Answer.{Answer}
 use Rattle.definitions.specs.declared.Verdict.{Verdict}
@@ -12,17 +15,20 @@ use Rattle.definitions.specs.declared.Verdict.the-variants.{RejectV, Rej
 use Rattle.definitions.proofs.Bytes.{clock, session, setup, prices, order, cancel, rest}
 use Rattle.definitions.proofs.Run.{answersOf, lastOf}
 
--- what a case asks: the position of a price, or the answer to the last event of a history of one customer and one security
+-- what a case asks: the position of a price, the nearest positions of one, or the answer to the last event of a history of one customer and one security
 pub data Question : Type 0 where
   position : ℕ → Question
+  nearest : ℕ → Question
   lastAnswer : List (List ℕ) → Question
 
 pub data Found : Type 0 where
   at : Position → Found
+  beside : Nearest → Found
   answered : Answer → Found
 
 abbrev pub find : Question → Found
 find (position p) = at (positionOf p)
+find (nearest p) = beside (nearestTo p)
 find (lastAnswer history) = answered (lastOf (answersOf 1 1 history) answer.Ok)
 
 pub record Case : Type 0 where
@@ -32,6 +38,16 @@ pub record Case : Type 0 where
 -- a price and its position
 abbrev pub stands : ℕ → ℕ → Case
 stands price k = record { asked = position price; right = at (At k) }
+
+-- a price and its nearest positions: two where it lies between two steps, and one where it is legal
+abbrev pub lies : ℕ → Nearest → Case
+lies price n = record { asked = nearest price; right = beside n }
+
+abbrev pub between : ℕ → ℕ → Nearest
+between lower upper = Positions (record { lower = lower; upper = upper; legal = false })
+
+abbrev pub exactly : ℕ → Nearest
+exactly k = Positions (record { lower = k; upper = k; legal = true })
 
 -- a history and the verdict on the order at its end
 abbrev pub judged : List (List ℕ) → List ℕ → Verdict → Case
@@ -72,6 +88,10 @@ openSession = session 2 ∷ []
 -- session 2 with an offer of 50.25, and an MP buy of 100,000
 abbrev pub atMarket : List (List ℕ)
 atMarket = session 2 ∷ prices 0 0 0 0 0 5025 ∷ order 0 1 0 0 0 3 0 0 100_000 ∷ []
+
+-- session 1 with the prior close 65.60 and no other price
+abbrev pub adjusted : List (List ℕ)
+adjusted = setup 0 100 0 0 6560 0 ∷ session 1 ∷ []
 
 abbrev pub cases : List Case
 cases =
@@ -115,8 +135,28 @@ cases =
     ∷ judged (atMarket ++ (rest 0 1 5000 ∷ cancel 0 1 ∷ clock 60_000 ∷ [])) (onlineBuy 2 5000 60_000) RejectP
     ∷ judged (atMarket ++ (rest 0 1 5000 ∷ cancel 0 1 ∷ clock 60_001 ∷ [])) (onlineBuy 2 5000 60_000) Accept
     ∷ judged (atMarket ++ (cancel 0 1 ∷ [])) (onlineBuy 1 5000 60_000) Accept
+    -- paper 02, 2: "adjusted prior closes such as 65.60, which lies between two steps": 65.50 and 65.75
+    ∷ stands 6550 762
+    ∷ stands 6575 763
+    ∷ lies 6560 (between 762 763)
+    ∷ lies 6550 (exactly 762)
+    -- "for each price from 1 to 10,000,000 ..; for others, none"
+    ∷ lies 1 (exactly 1)
+    ∷ lies 201 (between 200 201)
+    ∷ lies 39_999 (between 1299 1300)
+    ∷ lies 40_001 (between 1300 1301)
+    ∷ lies 9_999_999 (between 51_099 51_100)
+    ∷ lies 10_000_000 (exactly 51_100)
+    ∷ lies 0 None
+    ∷ lies 10_000_001 None
+    ∷ lies 4_294_967_295 None
+    -- "Warn 10 counts up from the lower and down from the upper position"
+    ∷ judged adjusted (onlineBuy 1 6800 100) Accept
+    ∷ judged adjusted (onlineBuy 1 6825 100) Warn10
+    ∷ judged adjusted (onlineBuy 1 6325 100) Accept
+    ∷ judged adjusted (onlineBuy 1 6300 100) Warn10
     ∷ []
 
 pub all-right : map (λ (c : Case). find (c .asked)) cases ≡ map (λ (c : Case). c .right) cases
-unfolding positionOf legal bandOfPrice lastBand answersOf
+unfolding positionOf nearestTo legal bandOfPrice lastBand answersOf
 all-right = refl

@@ -128,9 +128,8 @@ corners =
     ∷ refused bare (setup 0 10 0 0 10_000_001 0) 5
     ∷ refused bare (prices 0 2 0 0 0 201) 5
     ∷ refused bare (order 0 0 0 main buy limit online 5001 100) 5
-    -- 6: each price off the ladder, and at its end
+    -- 6: each price off the ladder, and at its end; a prior close beyond the end (paper 02, 2)
     ∷ refused bare (setup 0 100 0 0 10_000_001 0) 6
-    ∷ refused bare (setup 0 100 0 0 4_294_967_295 0) 6
     ∷ refused bare (setup 0 100 0 0 0 10_000_001) 6
     ∷ refused bare (prices 0 main 201 0 0 0) 6
     ∷ refused bare (prices 0 main 0 201 0 0) 6

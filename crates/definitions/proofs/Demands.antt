@@ -2,15 +2,18 @@
 -- under the sentence that it proves. The definitions that it names are in crates/definitions/specs, but for those that stand beside their laws: `FoundFirst` in Refused.antt, `Good`,
 -- a well-formed state, in WellFormed.antt, `AppliesFirst` in Verdicts.antt, `Belongs` in Ownership.antt, what a counter counts in Counters.antt, what a
 -- session change leaves in SessionChange.antt, `StandsIn` in Standing.antt, a row as a cancel marks it in Minute.antt, the session of an ATO, ATC or MP row
--- in SessionRows.antt, `RestLimited` and `withoutMpRows` in RestRows.antt, and `MpRow` in SoundRow.antt. That the code does what `outcome` says is the contract of `gate::handle`.
+-- in SessionRows.antt, `RestLimited` and `withoutMpRows` in RestRows.antt, `MpRow` in SoundRow.antt, and paper 01's warn 10 in AdjustedClose.antt. That the code does what `outcome` says is the contract of `gate::handle`.
 -- Assumes nothing.
 use mathlib.Core.Bool.{Bool, true, not, false}
 use mathlib.Core.List.{List}
 use mathlib.Core.Logic.{_↔_}
 use mathlib.Core.Path.{_≡_, ap, sym, _∙_}
 use Prim.Native.Nat.{ℕ, _+_, _≤_, _<_}
+use Rattle.ladder.specs.Bands.{lastPrice}
 use Rattle.ladder.specs.Ladder.{legal}
 use Rattle.definitions.specs.declared.Row.{Row}
+use Rattle.definitions.specs.declared.MarketView.{MarketView}
+use Rattle.definitions.specs.declared.Setup.{Setup}
 use Rattle.definitions.specs.declared.Order.{Order}
 use Rattle.definitions.specs.declared.Cancel.{Cancel}
 use Rattle.definitions.specs.declared.Rest.{Rest}
@@ -22,8 +25,8 @@ use Rattle.definitions.specs.declared.Answer.{Answer}
 use Rattle.definitions.specs.declared.Answer.the-variants as answer
 use Rattle.definitions.specs.Codes.{openMark, cancelledMark, limit, mp}
 use Rattle.definitions.specs.Lists.{any, all, keep, count, firstMet}
-use Rattle.definitions.specs.State.{headerOf, sizesFit, fresh, deskAt, putDesk, deskWords, stateFits}
-use Rattle.definitions.specs.Gate.{answerOf, wordsOf, recordsSound, conditions, viewAt, verdictAt, orderedAt, perform, outcome, eventAnswer, eventWords, wordsAfter, answersTo}
+use Rattle.definitions.specs.State.{headerOf, sizesFit, fresh, securityAt, deskAt, putDesk, deskWords, stateFits}
+use Rattle.definitions.specs.Gate.{answerOf, wordsOf, recordsSound, conditions, marketViewAt, viewAt, verdictAt, orderedAt, perform, outcome, eventAnswer, eventWords, wordsAfter, answersTo}
 use Rattle.definitions.specs.Lone.{Lone, loneFresh, loneAfter, loneAnswers, isFed, marketWords, customerWords}
 use Rattle.definitions.proofs.State as state
 use Rattle.definitions.proofs.WellFormed as wellFormed
@@ -46,11 +49,13 @@ use Rattle.definitions.proofs.SessionRows as sessionRows
 use Rattle.definitions.proofs.SessionRows.{InItsSession}
 use Rattle.definitions.proofs.RestRows as restRows
 use Rattle.definitions.proofs.RestRows.{isRest, RestLimited, withoutMpRows}
+use Rattle.definitions.proofs.AdjustedClose as adjustedClose
+use Rattle.definitions.proofs.AdjustedClose.{warn10OnLadder}
 use Rattle.definitions.proofs.SoundRow as soundRow
 use Rattle.definitions.proofs.SoundRow.{MpRow}
 use Rattle.definitions.proofs.SoundDesk.{desk-true}
-use Rattle.definitions.specs.Sound.{soundRow as soundRowTest}
-use Rattle.definitions.specs.Rules.{View, ruleW}
+use Rattle.definitions.specs.Sound.{priceOrAbsent, soundTerms, soundRow as soundRowTest}
+use Rattle.definitions.specs.Rules.{View, ruleW, reference10, warn10}
 use Rattle.definitions.specs.Events.{eventIn, bytesConditions}
 use Rattle.definitions.specs.Refusals.{badName}
 
@@ -200,6 +205,28 @@ module _ (customers securities : ℕ) (fit : sizesFit customers securities ≡ t
   -- "W compares with such a row only once it is a limit": without its rows of type 3 a desk gives the same W
   pub w-without-mp-rows : (v : View) (o : Order) → ruleW (withoutMpRows v) o ≡ ruleW v o
   w-without-mp-rows = restRows.w-without-mp-rows
+
+  -- Paper 02, 2 (what the ladder answers between two steps has its laws in crates/ladder/proofs/NearestLaws.antt): "Refusal 6 .. now take[s] any prior close up to 10,000,000": a setup, read whole, of a security below S, with listed codes and an IPO price up
+  -- to 10,000,000, is answered ok with a prior close up to that, on the ladder or not, and refused with 6 with any other
+  pub close-taken : (history : List (List ℕ)) (x : Setup) → x .security < securities → soundTerms (x .terms) ≡ true → x .prior .ipo ≤ lastPrice
+      → (b : List ℕ) → firstMet (bytesConditions b) ≡ 0 → eventIn b ≡ event.Setup x
+      → x .prior .close ≤ lastPrice → eventAnswer (after history) b ≡ answer.Ok
+  close-taken history = adjustedClose.close-taken (after history) (well-formed history)
+
+  pub close-refused : (history : List (List ℕ)) (x : Setup) → x .security < securities → soundTerms (x .terms) ≡ true → x .prior .ipo ≤ lastPrice
+      → (b : List ℕ) → firstMet (bytesConditions b) ≡ 0 → eventIn b ≡ event.Setup x
+      → lastPrice < x .prior .close → eventAnswer (after history) b ≡ answer.Refused 6
+  close-refused history = adjustedClose.close-refused (after history) (well-formed history)
+
+  -- "Warn 10 counts up from the lower and down from the upper position": for every legal reference, and for none, the rule is paper 01's
+  pub warn-10-on-the-ladder : (m : MarketView) (o : Order) → priceOrAbsent (reference10 (m .security)) ≡ true → warn10 m o ≡ warn10OnLadder m o
+  warn-10-on-the-ladder = adjustedClose.on-the-ladder
+
+  -- so that after every history an order of a security whose prior close is absent or legal gets warn 10 where paper 01 gives it: projected prices and last sales
+  -- stay on the ladder
+  pub warn-10-as-before : (history : List (List ℕ)) (s : ℕ) → s < securities → priceOrAbsent (securityAt (after history) s .prior .close) ≡ true → (o : Order)
+      → warn10 (marketViewAt (after history) s) o ≡ warn10OnLadder (marketViewAt (after history) s) o
+  warn-10-as-before history = adjustedClose.legal-close (after history) (well-formed history)
 
   -- "Kinds 5 to 7 belong to the customer they name; 1 to 4 .. are market events. An event that meets condition 2 or 3 below, or one with a customer of C or
   -- more, belongs to nobody."; paper 02, 1, of kind 8: "The event belongs to its customer."

@@ -35,6 +35,7 @@ pub mod Standing
 pub mod Minute
 pub mod SessionRows
 pub mod RestRows
+pub mod AdjustedClose
 -- the three demands
 pub mod Demands
 -- the paper's cases
@@ -50,5 +51,6 @@ pub mod MarketCorners
 pub mod RowCorners
 pub mod DoneCorners
 pub mod RestCorners
+pub mod CloseCorners
 pub mod EventCases
 pub mod AnswerCases
