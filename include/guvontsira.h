@@ -20,8 +20,8 @@
  * little-endian there, as the fields of events are everywhere: words that are
  * kept in a file can be lent again by any program on such a machine.
  *
- * A call takes less than GUVONTSIRA_STACK_BYTES of the caller's stack: 8,400
- * measured, for a limit order before the opening, and 8,968 where a lazy dynamic
+ * A call takes less than GUVONTSIRA_STACK_BYTES of the caller's stack: 8,512
+ * measured, for a limit order before the opening, and 9,048 where a lazy dynamic
  * linker looks up memcpy during it, which is more or less by the processor.
  */
 #ifndef GUVONTSIRA_H
