@@ -7,7 +7,7 @@ use guvontsira::{MAX_POSITION, MAX_PRICE, Nearest};
 
 use crate::table::{self, Column};
 
-/// The lowest and the highest price; a band of the rules always has both.
+/// The lowest and the highest legal price within, as the library gives them.
 type Band = [Option<u32>; 2];
 
 /// The price is 1 to [`MAX_PRICE`].
@@ -144,26 +144,29 @@ mod tests {
         assert_eq!(percent(1_99, 30), band(1_40, 2_58));
     }
 
-    /// Legal prices and those beside them, by the list of all legal prices: how
-    /// many of it are too low and how many are not too high.
+    /// Legal prices and those beside them, by the places of the list of all legal
+    /// prices.
     #[test]
     fn beside_every_legal_price() {
         let legal: Vec<u32> = (1..).map_while(guvontsira::price).collect();
-        let from = |too_low: &dyn Fn(u32) -> bool| legal[legal.partition_point(|&p| too_low(p))];
-        let to = |fits: &dyn Fn(u32) -> bool| legal[legal.partition_point(|&p| fits(p)) - 1];
-        let beside = |&legal: &u32| [legal - 1, legal, legal + 1];
-        for price in legal.iter().flat_map(beside) {
-            if !(1..=MAX_PRICE).contains(&price) {
-                continue;
-            }
+        let last = legal.len() - 1;
+        let beside = legal
+            .iter()
+            .flat_map(|&price| [price - 1, price, price + 1]);
+        for price in beside.filter(|price| (1..=MAX_PRICE).contains(price)) {
             let upper = legal.partition_point(|&p| p < price);
             let lower = legal.partition_point(|&p| p <= price) - 1;
-            let last = legal.len() - 1;
-            let ten_away = band(legal[upper.saturating_sub(10)], legal[last.min(lower + 10)]);
-            assert_eq!(ten(price), ten_away, "{price}");
+            let below = upper.checked_sub(1).map(|place| legal[place]);
+            assert_eq!(at_or_below(price - 1), below, "{price}");
+            let above = legal.get(lower + 1).copied();
+            assert_eq!(at_or_above(price + 1), above, "{price}");
+            let (from, to) = (upper.saturating_sub(10), last.min(lower + 10));
+            assert_eq!(ten(price), band(legal[from], legal[to]), "{price}");
             for width in [30, 50] {
                 let (low, high) = (price * (100 - width), price * (100 + width));
-                let exact = band(from(&|p| p * 100 < low), to(&|p| p * 100 <= high));
+                let from = legal.partition_point(|&p| p * 100 < low);
+                let past = legal.partition_point(|&p| p * 100 <= high);
+                let exact = band(legal[from], legal[past - 1]);
                 assert_eq!(percent(price, width), exact, "{price}");
             }
         }
