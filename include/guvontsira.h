@@ -266,9 +266,9 @@ enum guvontsira_answer {
     /* No rule applies: the order may go out. */
     GUVONTSIRA_ACCEPT = 100,
     /* It may go out. Its position is more than 10 above the lower position of the
-       reference, or more than 10 below its upper position; the reference is the
-       projected price, else the last sale, else the prior close, and only the
-       last may have two: limits on the main board, before the opening and the
+       reference, or more than 10 below its upper position. The reference is the
+       projected price, else the last sale, else the prior close, which alone may
+       lie between two steps: limits on the main board, before the opening and the
        close, online and DMA. */
     GUVONTSIRA_WARN_10 = 110,
     /* It may go out. Its price is above 130% or below 70% of the last sale (on the

@@ -32,13 +32,9 @@ pub enum Event {
         /// Whether there is no ceiling and floor.
         free: bool,
         first_day: bool,
-        /// Up to [`MAX_PRICE`], also off the ladder.
-        ///
-        /// [`MAX_PRICE`]: crate::MAX_PRICE
+        /// Up to [`MAX_PRICE`](crate::MAX_PRICE), also off the ladder.
         prior_close: u32,
-        /// Up to [`MAX_PRICE`], also off the ladder.
-        ///
-        /// [`MAX_PRICE`]: crate::MAX_PRICE
+        /// Up to [`MAX_PRICE`](crate::MAX_PRICE), also off the ladder.
         ipo: u32,
     },
     /// All four prices of one board.
