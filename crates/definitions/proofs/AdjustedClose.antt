@@ -51,7 +51,8 @@ legal-apart reference k t =
     let h = legal-true reference t in
     let n = nearestIn (bandOfPrice reference) reference in
     let e : nearestTo reference ≡ Positions n = answered reference (h .above) (h .below) in
-    rw (at-position reference n e t, e, ← (both-equal reference n e t))
+    let same : n .lower ≡ n .upper = both-equal reference n e t in
+    rw (at-position reference n e t, e) cc
 
 not-absent : (p : ℕ) → legal p ≡ true → eqb p 0 ≡ false
 not-absent p t = ne-eqb p 0 (λ none. omega (arith, none, legal-true p t .above))
