@@ -36,11 +36,13 @@ clock 10:00:30
 cancel 0 no 4
 ";
 
-/// Before the opening: ATO rows, projected prices.
+/// Before the opening: ATO rows, projected prices. Of security 2 there is only a
+/// prior close, between two steps.
 const PRE_OPEN: &str = "\
 clock 09:45:00
 session pre-open
 setup 0 lot 100 free first-day close 24.50 ipo 24.00
+setup 2 lot 100 close 65.60
 prices 0 main projected 24.50 last 24.60 bid 24.40 offer 24.60
 prices 0 foreign projected 25.00
 prices 1 main projected 100.00
@@ -118,7 +120,7 @@ pub fn events_for(words: &[u32]) -> Vec<Vec<u8>> {
         "\
 setup 0 lot 100 free close 50.00
 setup 1 lot 1 first-day close 10.00 ipo 10.01
-setup 2 lot 50
+setup 2 lot 50 close 65.60
 prices 0 main projected 50.00 last 50.00
 prices 1 foreign offer 10.00
 prices 2 main last 400.00 bid 398.00
@@ -130,6 +132,8 @@ order 0 no 1 security 0 main buy limit 50.00 x 100 front
 order 0 no 99 security 1 foreign sell limit 10.00 x 100 dma
 order 1 no 99 security 1 main buy limit 14.00 x 100 online
 order 1 no 99 security 2 main sell limit 400.00 x 100 dma
+order 1 no 99 security 2 main buy limit 68.00 x 100 online
+order 1 no 99 security 2 main buy limit 63.00 x 100 dma
 order 0 no 99 security 0 main buy limit 50.00 x 0 dma
 cancel 0 no 1
 cancel 0 no 2

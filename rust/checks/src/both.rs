@@ -116,6 +116,11 @@ impl Both {
         self.before.extend(words);
     }
 
+    /// As the last event left them.
+    pub fn words(&self) -> &[u32] {
+        &self.second
+    }
+
     /// Hands one event to both and compares answers and every word.
     pub fn send(&mut self, event: &[u8]) -> Result<u32, Difference> {
         let answer = library::handle(self.gate.words_mut(), event);

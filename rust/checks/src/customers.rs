@@ -287,15 +287,30 @@ mod tests {
     use second::gate;
 
     use super::*;
+    use crate::places::{EDGES, place};
 
-    /// How many rests of a history are carried out.
-    fn rests(subject: &Subject) -> usize {
+    /// How many events of a history are such, by the words that they leave and
+    /// their answer.
+    fn count(subject: &Subject, wanted: fn(&[u32], &[u8], Answer) -> bool) -> usize {
         let mut words = fresh(subject.customers, subject.securities);
-        let carried_out = subject.history.iter().filter(|event| {
+        let found = subject.history.iter().filter(|event| {
             let answer = gate::handle(&mut words, event);
-            event.first() == Some(&8) && answer == Answer::Ok
+            wanted(&words, event, answer)
         });
-        carried_out.count()
+        found.count()
+    }
+
+    fn rests(subject: &Subject) -> usize {
+        count(subject, |_, event, answer| {
+            event.first() == Some(&8) && answer == Answer::Ok
+        })
+    }
+
+    /// Orders at an edge that an adjusted close draws.
+    fn edges(subject: &Subject) -> usize {
+        count(subject, |words, event, answer| {
+            EDGES.contains(&place(words, event, number(answer)))
+        })
     }
 
     /// A lone run is compared over rests only if its history has some.
@@ -306,5 +321,14 @@ mod tests {
         let by_all: usize = (0..20).map(|_| rests(&over_every_desk(&mut random))).sum();
         assert!(by_few > 100, "{by_few}");
         assert!(by_all > 20, "{by_all}");
+    }
+
+    #[test]
+    fn histories_have_orders_at_the_edges_of_adjusted_closes() {
+        let mut random = Random::new(1);
+        let by_few: usize = (0..60).map(|_| edges(&by_a_few(&mut random))).sum();
+        let by_all: usize = (0..20).map(|_| edges(&over_every_desk(&mut random))).sum();
+        assert!(by_few > 30, "{by_few}");
+        assert!(by_all > 15, "{by_all}");
     }
 }

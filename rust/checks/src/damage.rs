@@ -1,12 +1,17 @@
 //! Single words of a sound state set to many values, then an event of every
 //! kind against each.
 
-use crate::bases::{bases, events_for};
-use crate::layout::{CLOCK, fresh, meaning, row_start};
+use second::encode;
+use second::event::{Event, Order, decode};
+use second::ladder::Nearest;
+
+use crate::bases::{SECURITIES, bases, events_for};
+use crate::layout::{CLOCK, PRIOR_CLOSE, fresh, meaning, row_start, security_start};
+use crate::prices::{nearest, step};
 use crate::program::Program;
 
 /// At, below and above what any field may hold.
-const VALUES: [u32; 44] = [
+const VALUES: [u32; 45] = [
     0,
     1,
     2,
@@ -41,6 +46,7 @@ const VALUES: [u32; 44] = [
     400_01,
     60_000,
     60_001,
+    9_999_999,
     10_000_000,
     10_000_001,
     10_000_200,
@@ -52,6 +58,12 @@ const VALUES: [u32; 44] = [
     u32::MAX - 1,
     u32::MAX,
 ];
+
+/// In several bands, in the first gap of the ladder and in the last.
+const CLOSES_BETWEEN: [u32; 10] = [
+    2_01, 4_99, 10_01, 24_99, 65_60, 65_74, 199_99, 400_01, 9_998_001, 9_999_999,
+];
+const CLOSES_BEYOND: [u32; 4] = [10_000_001, 10_000_200, 1 << 31, u32::MAX];
 
 pub fn run(program: &mut Program) {
     for (name, base) in bases() {
@@ -76,6 +88,7 @@ pub fn run(program: &mut Program) {
         }
     }
     rows_of_each_type(program);
+    prior_closes(program);
     other_counts(program);
     wrong_lengths(program);
 }
@@ -110,6 +123,72 @@ fn rows_of_each_type(program: &mut Program) {
                 }
             }
         }
+    }
+}
+
+/// "Soundness now takes any prior close up to 10,000,000" (paper 02, request 2):
+/// closes between two steps, with orders at the edges that they draw, and closes
+/// beyond, for which every event that reads the security gets 8.
+fn prior_closes(program: &mut Program) {
+    for (name, base) in bases() {
+        for security in 0..SECURITIES as u16 {
+            let place = security_start(security.into()) + PRIOR_CLOSE;
+            let mut damaged = base.clone();
+            for close in CLOSES_BETWEEN {
+                damaged[place] = close;
+                let mut events = events_for(&base);
+                events.extend(orders_at_the_edges(security, close));
+                let name = format_args!("{name}, prior close of {security} is {close}");
+                program.each(name, &damaged, &events);
+            }
+            for close in CLOSES_BEYOND {
+                damaged[place] = close;
+                let events = events_for(&base);
+                let eights: Vec<Option<u32>> = events
+                    .iter()
+                    .map(|event| reads(event, security).then_some(8))
+                    .collect();
+                let name = format_args!("{name}, prior close of {security} is {close}");
+                program.case_expecting(name, &damaged, &events, &eights);
+            }
+        }
+    }
+}
+
+/// Ten and eleven positions up from the lower and down from the upper position,
+/// by a customer with rows and by one without.
+fn orders_at_the_edges(security: u16, close: u32) -> Vec<Vec<u8>> {
+    let Nearest { lower, upper, .. } = nearest(close);
+    let edges = [(lower, 10), (lower, 11), (upper, -10), (upper, -11)];
+    let order = |customer, channel, price| {
+        encode::order(&Order {
+            customer,
+            number: 99,
+            security,
+            board: 0,
+            side: 0,
+            order_type: 0,
+            channel,
+            price,
+            volume: 100,
+        })
+    };
+    edges
+        .into_iter()
+        .map(|(position, away)| step(position, away))
+        .flat_map(|price| [order(0, 1, price), order(1, 2, price)])
+        .collect()
+}
+
+/// Does an event of this kind read the security's record? Nothing else turns
+/// such events of a base back before that.
+fn reads(event: &[u8], security: u16) -> bool {
+    match decode(event) {
+        Ok(Event::Session { .. }) => true,
+        Ok(Event::Setup(setup)) => setup.security == security,
+        Ok(Event::Prices(prices)) => prices.security == security,
+        Ok(Event::Order(order)) => order.security == security,
+        _ => false,
     }
 }
 

@@ -7,7 +7,7 @@ use second::{encode, gate};
 
 use crate::bases::{bases, events_for};
 use crate::histories::sizes;
-use crate::layout::{SESSION, fresh, row_start, security_start};
+use crate::layout::{PRIOR_CLOSE, SESSION, fresh, row_start, security_start};
 use crate::mixture::MIXTURES;
 use crate::program::Program;
 use crate::random::Random;
@@ -92,6 +92,9 @@ fn many_words(program: &mut Program, random: &mut Random) {
 /// One word anywhere, mostly in the first rows of this customer, mostly by
 /// little.
 fn damage_word(random: &mut Random, words: &mut [u32], securities: usize, customer: usize) {
+    if random.once_in(10) {
+        return damage_prior_close(random, words, securities);
+    }
     let place = match random.below(8) {
         0 => random.place(words.len()),
         1 | 2 => security_start(random.place(securities)) + random.place(SECURITY_WORDS),
@@ -103,5 +106,16 @@ fn damage_word(random: &mut Random, words: &mut [u32], securities: usize, custom
         2 => words[place].wrapping_sub(1),
         3 => words[random.place(words.len())],
         _ => random.below(4),
+    };
+}
+
+/// Sound up to 10,000,000, between two steps or not.
+fn damage_prior_close(random: &mut Random, words: &mut [u32], securities: usize) {
+    let place = security_start(random.place(securities)) + PRIOR_CLOSE;
+    words[place] = match random.below(4) {
+        0 => random.pick(&[9_999_999, 10_000_000, 10_000_001, 10_000_200]),
+        1 => random.below(10_000_001),
+        2 => words[place].wrapping_sub(1),
+        _ => words[place].wrapping_add(1),
     };
 }

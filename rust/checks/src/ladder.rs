@@ -32,9 +32,19 @@ pub fn run(program: &mut Program) {
     }
 }
 
+/// Whether a price is legal is compared with its position, which is 0 where it
+/// is not.
 fn positions(program: &mut Program, numbers: &[u32]) {
     compare(program, "positions", numbers, library::position, |price| {
         ladder::position(price).unwrap_or(0)
+    });
+    let name = "lower positions";
+    compare(program, name, numbers, library::lower_position, |price| {
+        ladder::nearest(price).map_or(0, |nearest| nearest.lower)
+    });
+    let name = "upper positions";
+    compare(program, name, numbers, library::upper_position, |price| {
+        ladder::nearest(price).map_or(0, |nearest| nearest.upper)
     });
 }
 

@@ -8,6 +8,8 @@ use second::state::{
 
 pub const CLOCK: usize = 2;
 pub const SESSION: usize = 3;
+/// In a security's record.
+pub const PRIOR_CLOSE: usize = 3;
 
 const HEADER: [&str; HEADER_WORDS] = ["customers", "securities", "clock", "session"];
 const SECURITY: [&str; SECURITY_WORDS] = [
@@ -90,6 +92,7 @@ mod tests {
             (0, "header, customers"),
             (SESSION, "header, session"),
             (security_start(0), "security 0, lot"),
+            (security_start(0) + PRIOR_CLOSE, "security 0, prior close"),
             (security_start(1) + 12, "security 1, foreign board, offer"),
             (desk_start(2, 0), "customer 0, accepted"),
             (desk_start(2, 1) + 2, "customer 1, rejected"),

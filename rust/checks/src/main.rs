@@ -17,7 +17,9 @@ mod make;
 mod malformed;
 mod mixture;
 mod own_orders;
+mod places;
 mod prices;
+mod prior_closes;
 mod program;
 mod random;
 mod references;
@@ -42,7 +44,7 @@ use program::Program;
 type Group = (&'static str, fn(&mut Program));
 
 /// Cases that are the same in every run of one seed.
-const FIXED: [Group; 12] = [
+const FIXED: [Group; 13] = [
     ("edges", |program| {
         script::run(program, "edges.txt", include_str!("../cases/edges.txt"))
     }),
@@ -67,6 +69,7 @@ const FIXED: [Group; 12] = [
     ("own-orders", own_orders::run),
     ("repeats", repeats::run),
     ("references", references::run),
+    ("prior-closes", prior_closes::run),
     ("lengths", lengths::fixed),
     ("damage", damage::run),
     ("ladder", ladder::run),

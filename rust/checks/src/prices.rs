@@ -1,7 +1,7 @@
 //! Random prices and volumes on both sides of every edge of the rules.
 
 use second::codes::{Board, OrderType};
-use second::ladder::{self, FIRST_PRICE, LAST_PRICE, POSITIONS};
+use second::ladder::{self, FIRST_PRICE, LAST_PRICE, Nearest, POSITIONS};
 use second::state::{MAX_VOLUME, Row, Security};
 
 use crate::random::Random;
@@ -31,11 +31,25 @@ pub fn step(position: u32, away: i32) -> u32 {
 }
 
 pub fn position_at_or_below(price: u32) -> u32 {
+    nearest(price).lower
+}
+
+/// The nearest positions of a price, or of that end of the ladder which it is
+/// beyond.
+pub fn nearest(price: u32) -> Nearest {
     let price = price.clamp(FIRST_PRICE, LAST_PRICE);
-    // The widest step is 200 satang.
-    (0..200)
-        .find_map(|down| ladder::position(price.checked_sub(down)?))
-        .expect("no step is wider")
+    ladder::nearest(price).expect("the price is one of those that the ladder answers for")
+}
+
+/// Prices between this position's and the next one's: beside both, and two
+/// inside. There are none where a step is one satang.
+pub fn between(position: u32) -> Vec<u32> {
+    let (low, high) = (step(position, 0), step(position, 1));
+    let gap = high - low;
+    let mut prices = vec![low + 1, low + gap / 3, low + gap / 2, high - 1];
+    prices.retain(|price| (low + 1..high).contains(price));
+    prices.dedup();
+    prices
 }
 
 /// A price of the market, absent now and then.
@@ -45,6 +59,17 @@ pub fn market_price(random: &mut Random, middle: u32) -> u32 {
         3..=7 => step(middle, random.below(7) as i32 - 3),
         8 => step(middle, random.below(41) as i32 - 20),
         _ => step(1 + random.below(POSITIONS), 0),
+    }
+}
+
+/// A prior close, mostly between two steps, and now and then above 10,000,000.
+pub fn prior_close(random: &mut Random, middle: u32) -> u32 {
+    let near = step(middle, random.below(7) as i32 - 3);
+    let closes = between(position_at_or_below(near));
+    match random.below(16) {
+        0 => LAST_PRICE + 1 + random.below(300),
+        1..=10 if !closes.is_empty() => random.pick(&closes),
+        _ => market_price(random, middle),
     }
 }
 
@@ -68,6 +93,9 @@ pub fn limit_price(
     middle: u32,
 ) -> u32 {
     let quotes = security.quotes(board);
+    if warn_10_takes_adjusted_close(security) && random.once_in(3) {
+        return ten_or_eleven_from(random, security.prior_close);
+    }
     let row = (!rows.is_empty()).then(|| random.pick(rows).price);
     let compared: Vec<u32> = [
         quotes.projected,
@@ -87,7 +115,8 @@ pub fn limit_price(
         return step(middle, random.below(9) as i32 - 4);
     }
     let reference = random.pick(&compared);
-    let position = position_at_or_below(reference);
+    let Nearest { lower, upper, .. } = nearest(reference);
+    let position = random.pick(&[lower, upper]);
     let sign = random.pick(&[-1, 1]);
     match random.below(16) {
         0..=3 => step(position, 0),
@@ -102,6 +131,25 @@ pub fn limit_price(
         13 | 14 => step(position, 0),
         _ if random.once_in(8) => random.word() % (LAST_PRICE + 1_000),
         _ => step(1 + random.below(POSITIONS), 0),
+    }
+}
+
+/// Its reference on the main board is the prior close, which lies between two
+/// steps.
+fn warn_10_takes_adjusted_close(security: &Security) -> bool {
+    security.main.projected == 0
+        && security.main.last == 0
+        && security.prior_close != 0
+        && !ladder::legal(security.prior_close)
+}
+
+/// One of the four edges of warn 10 by such a close.
+fn ten_or_eleven_from(random: &mut Random, close: u32) -> u32 {
+    let Nearest { lower, upper, .. } = nearest(close);
+    let away = 10 + random.below(2) as i32;
+    match random.below(2) {
+        0 => step(lower, away),
+        _ => step(upper, -away),
     }
 }
 

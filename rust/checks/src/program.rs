@@ -5,6 +5,7 @@ use std::fmt;
 use std::time::{Duration, Instant};
 
 use crate::both::{Both, Difference};
+use crate::places::place;
 use crate::random::Random;
 use crate::report;
 use crate::shares::Shares;
@@ -182,9 +183,10 @@ impl Program {
         if let Some(share) = self.shares.current() {
             share.events += 1;
         }
-        self.all.add(event, answer);
+        let place = place(self.both.words(), event, answer);
+        self.all.add(place, answer);
         if self.counts_history {
-            self.histories.add(event, answer);
+            self.histories.add(place, answer);
         }
     }
 

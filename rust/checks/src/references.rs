@@ -66,7 +66,7 @@ pub fn run(program: &mut Program) {
 }
 
 /// Every position up to 400.00 and a little beyond, some above, and the last.
-fn positions() -> Vec<u32> {
+pub fn positions() -> Vec<u32> {
     let low = 1..=1_330;
     let high = (1_331..POSITIONS - 30).step_by(997);
     let last = POSITIONS - 30..=POSITIONS;

@@ -11,7 +11,8 @@ use crate::layout::fresh;
 use crate::malformed::malformed;
 use crate::mixture::{Kind, Mixture};
 use crate::prices::{
-    limit_price, market_price, middle, order_type, price_near, repeated_volume, step, volume,
+    limit_price, market_price, middle, order_type, price_near, prior_close, repeated_volume, step,
+    volume,
 };
 use crate::random::Random;
 
@@ -91,10 +92,15 @@ impl Writer {
         self.desk(customer).rows().len()
     }
 
-    /// So many events. The first opens a session: in a closed one all orders
+    /// So many events, and before them in half of the histories some setups, by
+    /// which a day begins. The first opens a session: in a closed one all orders
     /// get S.
     pub fn history(&mut self, length: usize) -> Vec<Vec<u8>> {
         let mut events = vec![self.new_session(self.mixture.sessions[0])];
+        if self.random.once_in(2) {
+            let setups = 2 * self.securities.len();
+            events.extend((0..setups).map(|_| self.new_setup()));
+        }
         for _ in 0..length {
             events.push(self.event());
         }
@@ -274,14 +280,15 @@ impl Writer {
         let ipo = match random.below(3) {
             0 => 0,
             1 => step(middle, random.below(9) as i32 - 4),
-            _ => (step(middle, 0) + random.below(300)).min(10_000_000),
+            _ if random.once_in(12) => LAST_PRICE + 1 + random.below(300),
+            _ => (step(middle, 0) + random.below(300)).min(LAST_PRICE),
         };
         encode::setup(&Setup {
             security,
             lot: random.pick(&[100, 100, 100, 50, 1]),
             free: u8::from(!random.once_in(3)),
             first_day: random.below(2) as u8,
-            prior_close: market_price(random, middle),
+            prior_close: prior_close(random, middle),
             ipo,
         })
     }
@@ -293,11 +300,16 @@ impl Writer {
             self.securities[place].1 = middle(random);
         }
         let (security, middle) = self.securities[place];
+        // Before the first trade of a day the prior close is warn 10's reference.
+        let [projected, last] = match random.once_in(5) {
+            true => [0, 0],
+            false => [(); 2].map(|()| market_price(random, middle)),
+        };
         encode::prices(&Prices {
             security,
             board: random.pick(&[0, 0, 1]),
-            projected: market_price(random, middle),
-            last: market_price(random, middle),
+            projected,
+            last,
             bid: market_price(random, middle),
             offer: market_price(random, middle),
         })

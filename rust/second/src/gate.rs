@@ -11,8 +11,8 @@ use crate::event::{self, Event};
 use crate::ladder;
 use crate::rules::{self, Order, Scene};
 use crate::state::{
-    DESK_WORDS, Desk, FRESH_LOT, Header, LAST_TIME, MAX_IPO, Mark, Quotes, ROWS, Row,
-    SECURITY_WORDS, Security, is_market_price, word_count,
+    DESK_WORDS, Desk, FRESH_LOT, Header, LAST_TIME, MAX_IPO, MAX_PRIOR_CLOSE, Mark, Quotes, ROWS,
+    Row, SECURITY_WORDS, Security, is_market_price, word_count,
 };
 
 /// Makes a fresh state of so many customers and securities.
@@ -116,7 +116,7 @@ fn set_up(words: &mut [u32], header: &Header, event: &event::Setup) -> Result<An
     }
     let free = flag(event.free.into()).ok_or(Refusal::Code)?;
     let first_day = flag(event.first_day.into()).ok_or(Refusal::Code)?;
-    if !is_market_price(event.prior_close) || event.ipo > MAX_IPO {
+    if event.prior_close > MAX_PRIOR_CLOSE || event.ipo > MAX_IPO {
         return Err(Refusal::Price);
     }
     let record = &mut words[place];

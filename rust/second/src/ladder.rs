@@ -33,16 +33,38 @@ const BANDS: [Band; 8] = [
     band(400_00, 2_00, 1300),
 ];
 
-/// The position of a legal price; `None` if the price is off the ladder.
-pub fn position(price: u32) -> Option<u32> {
+/// Where a price stands among the legal ones.
+#[derive(Clone, Copy, Debug, PartialEq, Eq)]
+pub struct Nearest {
+    /// The nearest position at or below the price.
+    pub lower: u32,
+    /// The nearest position at or above it.
+    pub upper: u32,
+    /// Is the price itself on the ladder? Then both positions are its own.
+    pub legal: bool,
+}
+
+/// Paper 02, request 2: "The ladder now answers for each price from 1 to
+/// 10,000,000"; "for others, none".
+pub fn nearest(price: u32) -> Option<Nearest> {
     if price > LAST_PRICE {
         return None;
     }
     let band = BANDS.iter().rev().find(|band| band.first_price <= price)?;
     let above = price - band.first_price;
-    above
-        .is_multiple_of(band.step)
-        .then(|| band.first_position + above / band.step)
+    Some(Nearest {
+        lower: band.first_position + above / band.step,
+        // Every band is a whole number of its steps long, so that one step past
+        // its last position is the next band's first.
+        upper: band.first_position + above.div_ceil(band.step),
+        legal: above.is_multiple_of(band.step),
+    })
+}
+
+/// The position of a legal price; `None` if the price is off the ladder.
+pub fn position(price: u32) -> Option<u32> {
+    let nearest = nearest(price)?;
+    nearest.legal.then_some(nearest.lower)
 }
 
 /// The price at a position; `None` if there is no such position.
@@ -97,6 +119,55 @@ mod tests {
             }
         }
         assert_eq!(expected, POSITIONS);
+    }
+
+    fn nearest_is(satang: u32, lower: u32, upper: u32, legal: bool) {
+        let expected = Nearest {
+            lower,
+            upper,
+            legal,
+        };
+        assert_eq!(nearest(satang), Some(expected), "{satang}");
+    }
+
+    #[test]
+    fn between_two_steps() {
+        nearest_is(65_60, 762, 763, false);
+        nearest_is(65_50, 762, 762, true);
+        nearest_is(65_75, 763, 763, true);
+        for satang in 65_51..65_75 {
+            nearest_is(satang, 762, 763, false);
+        }
+        // Below 2.00 every satang is a step.
+        nearest_is(FIRST_PRICE, 1, 1, true);
+        nearest_is(1_99, 199, 199, true);
+        nearest_is(LAST_PRICE, POSITIONS, POSITIONS, true);
+        nearest_is(LAST_PRICE - 1, POSITIONS - 1, POSITIONS, false);
+    }
+
+    #[test]
+    fn on_both_sides_of_a_first_price() {
+        let first_of_each_later_band = [
+            (5_00, 350),
+            (10_00, 450),
+            (25_00, 600),
+            (100_00, 900),
+            (200_00, 1100),
+            (400_00, 1300),
+        ];
+        nearest_is(2_01, 200, 201, false);
+        for (satang, position) in first_of_each_later_band {
+            nearest_is(satang - 1, position - 1, position, false);
+            nearest_is(satang, position, position, true);
+            nearest_is(satang + 1, position, position + 1, false);
+        }
+    }
+
+    #[test]
+    fn none_for_other_prices() {
+        for satang in [0, LAST_PRICE + 1, LAST_PRICE + 200, u32::MAX] {
+            assert_eq!(nearest(satang), None, "{satang}");
+        }
     }
 
     #[test]

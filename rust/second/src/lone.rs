@@ -239,7 +239,7 @@ impl LoneRun {
         let [prior_close, ipo] = [6, 10].map(|at| field(event, at, 4));
         refuse_if(security >= self.listed.len(), 4)?;
         refuse_if(![1, 50, 100].contains(&lot) || free > 1 || first_day > 1, 5)?;
-        refuse_if(off_market(prior_close) || ipo > 10_000_000, 6)?;
+        refuse_if(prior_close > 10_000_000 || ipo > 10_000_000, 6)?;
         let boards = self.listed[security].boards;
         self.listed[security] = Listed {
             lot,
@@ -535,10 +535,12 @@ impl LoneRun {
             && self.in_call()
             && (ticket.channel == ONLINE || ticket.channel == DMA)
             && reference.is_some_and(|reference| {
-                let from = ladder::position(reference).expect("market prices are on the ladder");
-                let lowest = ladder::price(from.saturating_sub(10)).unwrap_or(ladder::FIRST_PRICE);
-                let highest = ladder::price(from + 10).unwrap_or(ladder::LAST_PRICE);
-                !(lowest..=highest).contains(&ticket.price)
+                let near = ladder::nearest(reference).expect("no price is above 10,000,000");
+                // Down from the upper position and up from the lower.
+                let lowest = ladder::price(near.upper.saturating_sub(10));
+                let highest = ladder::price(near.lower + 10);
+                ticket.price < lowest.unwrap_or(ladder::FIRST_PRICE)
+                    || ticket.price > highest.unwrap_or(ladder::LAST_PRICE)
             })
     }
 }

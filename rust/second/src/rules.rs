@@ -171,12 +171,13 @@ pub fn warn_10(scene: &Scene, order: &Order) -> bool {
     let reference = present(security.main.projected)
         .or_else(|| present(security.main.last))
         .or_else(|| present(security.prior_close));
-    let positions = (
-        ladder::position(order.price),
-        reference.and_then(ladder::position),
-    );
-    match positions {
-        (Some(own), Some(reference)) => own.abs_diff(reference) > FAR_POSITIONS,
+    let own = ladder::position(order.price);
+    match (own, reference.and_then(ladder::nearest)) {
+        // Paper 02, request 2: "counts up from the lower and down from the upper
+        // position". A prior close may lie between them.
+        (Some(own), Some(reference)) => {
+            own > reference.lower + FAR_POSITIONS || own + FAR_POSITIONS < reference.upper
+        }
         _ => false,
     }
 }

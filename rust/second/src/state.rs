@@ -24,6 +24,8 @@ pub const DESK_WORDS: usize = COUNTER_WORDS + ROWS * ROW_WORDS;
 pub const LAST_TIME: u32 = 86_399_999;
 /// IPO prices need not be on the ladder, but end where it does.
 pub const MAX_IPO: u32 = 10_000_000;
+/// Nor need prior closes, which the exchange adjusts when a right has gone.
+pub const MAX_PRIOR_CLOSE: u32 = 10_000_000;
 /// The largest volume of an order.
 pub const MAX_VOLUME: u32 = 20_000_000;
 /// How long a cancel is remembered, in milliseconds.
@@ -144,9 +146,10 @@ impl Security {
         let &[p, l, b, o, foreign_p, foreign_l, foreign_b, foreign_o] = quotes else {
             return None;
         };
-        let prices_sound =
-            is_market_price(prior_close) && quotes.iter().all(|&price| is_market_price(price));
-        if !is_lot(lot) || !prices_sound || ipo > MAX_IPO {
+        let prices_sound = prior_close <= MAX_PRIOR_CLOSE
+            && ipo <= MAX_IPO
+            && quotes.iter().all(|&price| is_market_price(price));
+        if !is_lot(lot) || !prices_sound {
             return None;
         }
         Some(Security {

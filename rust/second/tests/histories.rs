@@ -7,7 +7,7 @@ use std::collections::BTreeMap;
 
 use common::*;
 use second::answer::Answer;
-use second::event::{Order, Prices, Setup};
+use second::event::{Event, Order, Prices, Setup, decode};
 use second::lone::{LoneRun, Owner, belongs};
 use second::{encode, gate, ladder};
 
@@ -23,6 +23,8 @@ struct Lean {
     /// Cancels, matches and likenesses look back over so many orders.
     reach: usize,
     prices: &'static [u32],
+    /// Prior closes, most of them between two steps.
+    closes: &'static [u32],
     volumes: &'static [u32],
 }
 
@@ -32,13 +34,17 @@ const SPREAD: &[u32] = &[
     24_50, 26_25, 26_50, 398_00, 400_00, 10_000_000,
 ];
 
-const LEANS: [Lean; 5] = [
+/// Between 65.50 and 65.75.
+const NEAR_65_60: &[u32] = &[65_51, 65_60, 65_74];
+
+const LEANS: [Lean; 6] = [
     Lean {
         removal: 4,
         market: 5,
         sessions: &[1, 0, 2, 2, 3, 4],
         reach: 20,
         prices: NEAR_50,
+        closes: &[50_00, 50_10, 50_24],
         volumes: &[100, 150, 200, 59_900, 60_000, 100_000],
     },
     Lean {
@@ -47,6 +53,7 @@ const LEANS: [Lean; 5] = [
         sessions: &[2, 2, 2, 2, 1],
         reach: 12,
         prices: &[50_00, 50_25],
+        closes: &[50_01, 50_25],
         volumes: &[59_900, 60_000, 119_900, 120_000, 120_200],
     },
     Lean {
@@ -55,6 +62,7 @@ const LEANS: [Lean; 5] = [
         sessions: &[1, 2, 4],
         reach: 30,
         prices: SPREAD,
+        closes: &[24_50, 24_51, 24_99, 399_99, 9_999_999],
         volumes: &[100, 100, 5_000, 10_000_000, 20_000_000, 20_000_100],
     },
     // Few removals and many numbers: full desks.
@@ -64,6 +72,7 @@ const LEANS: [Lean; 5] = [
         sessions: &[2, 2, 2, 1],
         reach: 60,
         prices: NEAR_50,
+        closes: &[50_00, 50_10],
         volumes: &[100, 200, 300],
     },
     Lean {
@@ -72,6 +81,17 @@ const LEANS: [Lean; 5] = [
         sessions: &[1, 4],
         reach: 20,
         prices: NEAR_50,
+        closes: &[50_00, 50_01, 50_24, 52_60],
+        volumes: &[100, 200],
+    },
+    // Ten and eleven positions up from 65.50 and down from 65.75.
+    Lean {
+        removal: 5,
+        market: 8,
+        sessions: &[1, 4],
+        reach: 20,
+        prices: &[63_00, 63_25, 65_50, 65_75, 68_00, 68_25],
+        closes: NEAR_65_60,
         volumes: &[100, 200],
     },
 ];
@@ -142,6 +162,15 @@ impl Writer {
         }
     }
 
+    /// Legal or not, and now and then beyond 10,000,000.
+    fn close(&mut self) -> u32 {
+        match self.random.below(20) {
+            0 => self.random.below(10_100_000),
+            1..=4 => self.price_or_absent(),
+            _ => self.random.pick(self.lean.closes),
+        }
+    }
+
     /// Mostly a new number, now and then one used before or 0.
     fn number(&mut self) -> u32 {
         if self.random.once_in(6) {
@@ -183,7 +212,7 @@ impl Writer {
                 lot: self.random.pick(&[1, 50, 100, 100, 100, 100, 100, 7]),
                 free: self.random.below(2) as u8,
                 first_day: self.random.below(2) as u8,
-                prior_close: self.price_or_absent(),
+                prior_close: self.close(),
                 ipo: self.price_or_absent(),
             }),
             _ => encode::prices(&Prices {
@@ -310,10 +339,32 @@ fn history(seed: u64) -> (Vec<Vec<u8>>, u32, u32) {
     (events, writer.customers, writer.securities)
 }
 
+/// The price and the answer of an order that warn 10 judged by a prior close
+/// between 65.50 and 65.75. The order left the header and its security as they
+/// were.
+fn judged_near_65_60(gate: &Gate, event: &[u8], answer: Answer) -> Option<(u32, String)> {
+    let Ok(Event::Order(order)) = decode(event) else {
+        return None;
+    };
+    let was_judged = matches!(answer, Answer::Accept | Answer::Warn10)
+        && [u32::from(PRE_OPEN), u32::from(PRE_CLOSE)].contains(&gate.words[3])
+        && order.order_type == LIMIT
+        && order.board == MAIN
+        && order.channel != FRONT;
+    if !was_judged {
+        return None;
+    }
+    let security = gate.security(order.security.into());
+    let (close, projected, last) = (security[3], security[5], security[6]);
+    (projected == 0 && last == 0 && NEAR_65_60.contains(&close))
+        .then(|| (order.price, answer.to_string()))
+}
+
 #[test]
 fn the_gate_answers_as_the_lone_runs() {
     let mut seen: BTreeMap<String, u32> = BTreeMap::new();
     let mut rests: BTreeMap<String, u32> = BTreeMap::new();
+    let mut near_65_60: BTreeMap<(u32, String), u32> = BTreeMap::new();
     for seed in 0..6_000 {
         let (events, customers, securities) = history(seed);
         let mut gate = Gate::new(customers, securities);
@@ -325,6 +376,9 @@ fn the_gate_answers_as_the_lone_runs() {
             *seen.entry(answer.to_string()).or_default() += 1;
             if event.first() == Some(&8) {
                 *rests.entry(answer.to_string()).or_default() += 1;
+            }
+            if let Some(judged) = judged_near_65_60(&gate, event, answer) {
+                *near_65_60.entry(judged).or_default() += 1;
             }
             let fed = match belongs(event, customers) {
                 Owner::Market => 0..customers as usize,
@@ -383,6 +437,17 @@ fn the_gate_answers_as_the_lone_runs() {
         assert!(times >= 20, "{answer} came only {times} times from kind 8");
     }
     assert!(rests.is_empty(), "never from kind 8: {rests:?}");
+    let times = |price, answer: &str| near_65_60.get(&(price, answer.into())).copied();
+    for (price, answer, other) in [
+        (63_00, "warn 10", "accept"),
+        (63_25, "accept", "warn 10"),
+        (68_00, "accept", "warn 10"),
+        (68_25, "warn 10", "accept"),
+    ] {
+        let came = (times(price, answer).unwrap_or(0), times(price, other));
+        assert!(came.0 >= 100, "{answer} at {price} came {came:?} times");
+        assert_eq!(came.1, None, "{other} at {price}");
+    }
 }
 
 #[test]
@@ -448,12 +513,12 @@ mod soundness {
     use second::ladder::legal;
 
     pub fn security(w: &[u32]) -> bool {
-        let prices = [w[3], w[5], w[6], w[7], w[8], w[9], w[10], w[11], w[12]];
         [1, 50, 100].contains(&w[0])
             && w[1] <= 1
             && w[2] <= 1
-            && prices.iter().all(|&price| price == 0 || legal(price))
+            && w[3] <= 10_000_000
             && w[4] <= 10_000_000
+            && w[5..].iter().all(|&price| price == 0 || legal(price))
     }
 
     pub fn desk(w: &[u32], securities: u32, clock: u32) -> bool {
@@ -509,8 +574,9 @@ fn damaged_words_never_stop_the_gate() {
                     1 => 4 + writer.random.below(13 * writer.securities),
                     _ => desk as u32 + writer.random.below(3 + 9 * 12),
                 };
-                let value = match writer.random.below(3) {
+                let value = match writer.random.below(4) {
                     0 => writer.random.next() as u32,
+                    1 => writer.random.below(10_100_000),
                     _ => writer.random.below(4),
                 };
                 gate.words[place as usize] = value;

@@ -223,7 +223,7 @@ fn number_4_before_5_and_6() {
         encode::setup(&Setup {
             security: far,
             lot: 7,
-            prior_close: 2_01,
+            prior_close: 10_000_001,
             ..SETUP
         }),
         encode::prices(&Prices {
@@ -296,7 +296,7 @@ fn number_5_before_6() {
     for event in [
         encode::setup(&Setup {
             lot: 7,
-            prior_close: 2_01,
+            prior_close: 10_000_001,
             ..SETUP
         }),
         encode::setup(&Setup {
@@ -329,10 +329,6 @@ fn number_6() {
     let gate = gate();
     for price in [2_01, 10_05, 10_000_001, u32::MAX] {
         for event in [
-            encode::setup(&Setup {
-                prior_close: price,
-                ..SETUP
-            }),
             encode::prices(&Prices {
                 projected: price,
                 ..PRICES
@@ -356,9 +352,20 @@ fn number_6() {
         }
     }
     let ipo = |ipo| encode::setup(&Setup { ipo, ..SETUP });
-    assert_eq!(would(&gate, &ipo(2_01)), OK);
-    assert_eq!(would(&gate, &ipo(10_000_000)), OK);
-    assert_eq!(would(&gate, &ipo(10_000_001)), refused(6));
+    let close = |prior_close| {
+        encode::setup(&Setup {
+            prior_close,
+            ..SETUP
+        })
+    };
+    for price in [2_01, 10_000_000] {
+        assert_eq!(would(&gate, &ipo(price)), OK);
+        assert_eq!(would(&gate, &close(price)), OK);
+    }
+    for price in [10_000_001, u32::MAX] {
+        assert_eq!(would(&gate, &ipo(price)), refused(6));
+        assert_eq!(would(&gate, &close(price)), refused(6));
+    }
     assert_eq!(would(&gate, &encode::order(&buy(3, 0, 100))), refused(6));
     assert_eq!(would(&gate, &encode::rest(0, 4, 0)), refused(6));
     for order_type in [ATO, ATC, MP] {
@@ -380,7 +387,7 @@ fn number_6_before_8_to_10() {
     let mut damaged = gate.clone();
     damaged.words[4] = 3;
     let event = encode::setup(&Setup {
-        prior_close: 2_01,
+        prior_close: 10_000_001,
         ..SETUP
     });
     assert_eq!(would(&damaged, &event), refused(6));
@@ -408,8 +415,8 @@ fn security_damages() -> Vec<(usize, u32)> {
         (1, 2),
         (2, 2),
         (2, u32::MAX),
-        (3, 2_01),
         (3, 10_000_001),
+        (3, u32::MAX),
         (4, 10_000_001),
         (4, u32::MAX),
     ];
