@@ -20,8 +20,8 @@
  * little-endian there, as the fields of events are everywhere: words that are
  * kept in a file can be lent again by any program on such a machine.
  *
- * A call takes less than GUVONTSIRA_STACK_BYTES of the caller's stack: 8,400
- * measured, for a limit order before the opening, and 8,968 where a lazy dynamic
+ * A call takes less than GUVONTSIRA_STACK_BYTES of the caller's stack: 8,512
+ * measured, for a limit order before the opening, and 9,048 where a lazy dynamic
  * linker looks up memcpy during it, which is more or less by the processor.
  */
 #ifndef GUVONTSIRA_H
@@ -43,7 +43,7 @@ extern "C" {
  * no byte, answer or word differs. guvontsira_version gives the library's; a
  * program stops where the two differ.
  */
-#define GUVONTSIRA_VERSION 20000 /* 2.0.0 */
+#define GUVONTSIRA_VERSION 30000 /* 3.0.0 */
 
 #define GUVONTSIRA_MAX_CUSTOMERS 256
 #define GUVONTSIRA_MAX_SECURITIES 1024
@@ -93,8 +93,8 @@ enum guvontsira_event_byte {
     GUVONTSIRA_SETUP_LOT_BYTE = 3,         /* 1: 1, 50 or 100 */
     GUVONTSIRA_SETUP_FREE_BYTE = 4,        /* 1: 1 is no ceiling and floor */
     GUVONTSIRA_SETUP_FIRST_DAY_BYTE = 5,   /* 1: 0 or 1 */
-    GUVONTSIRA_SETUP_PRIOR_CLOSE_BYTE = 6, /* 4 */
-    GUVONTSIRA_SETUP_IPO_BYTE = 10,        /* 4: also off the ladder */
+    GUVONTSIRA_SETUP_PRIOR_CLOSE_BYTE = 6, /* 4: to GUVONTSIRA_MAX_PRICE, also off the ladder */
+    GUVONTSIRA_SETUP_IPO_BYTE = 10,        /* 4: likewise */
     /* 4 prices */
     GUVONTSIRA_PRICES_SECURITY_BYTE = 1,   /* 2: from 0 */
     GUVONTSIRA_PRICES_BOARD_BYTE = 3,      /* 1: enum guvontsira_board */
@@ -206,10 +206,10 @@ enum guvontsira_security_word {
     GUVONTSIRA_SECURITY_LOT_WORD = 0,
     GUVONTSIRA_SECURITY_FREE_WORD = 1,
     GUVONTSIRA_SECURITY_FIRST_DAY_WORD = 2,
-    GUVONTSIRA_SECURITY_PRIOR_CLOSE_WORD = 3,
-    GUVONTSIRA_SECURITY_IPO_WORD = 4,
-    GUVONTSIRA_SECURITY_MAIN_WORD = 5,   /* the main board's four prices */
-    GUVONTSIRA_SECURITY_FOREIGN_WORD = 9 /* the foreign board's */
+    GUVONTSIRA_SECURITY_PRIOR_CLOSE_WORD = 3, /* also off the ladder, as in a setup */
+    GUVONTSIRA_SECURITY_IPO_WORD = 4,         /* likewise */
+    GUVONTSIRA_SECURITY_MAIN_WORD = 5,        /* the main board's four prices */
+    GUVONTSIRA_SECURITY_FOREIGN_WORD = 9      /* the foreign board's */
 };
 
 /* From the start of a board's four prices. */
@@ -265,9 +265,11 @@ enum guvontsira_answer {
     GUVONTSIRA_REFUSED_DESK_FULL = 12,    /* 32 rows in use */
     /* No rule applies: the order may go out. */
     GUVONTSIRA_ACCEPT = 100,
-    /* It may go out. Its price is more than 10 ladder positions from the
-       projected price, else the last sale, else the prior close: limits on the
-       main board, before the opening and the close, online and DMA. */
+    /* It may go out. Its position is more than 10 above the lower position of the
+       reference, or more than 10 below its upper position. The reference is the
+       projected price, else the last sale, else the prior close, which alone may
+       lie between two steps: limits on the main board, before the opening and the
+       close, online and DMA. */
     GUVONTSIRA_WARN_10 = 110,
     /* It may go out. Its price is above 130% or below 70% of the last sale (on the
        foreign board else the main board's): limits for a free security, session
@@ -336,6 +338,16 @@ size_t guvontsira_run_list(uint32_t *words, size_t word_count,
 
 /* The ladder position of a price in satang; 0 if it is off the ladder. */
 uint32_t guvontsira_position(uint32_t price);
+
+/*
+ * The nearest ladder position at or below a price in satang (its lower position)
+ * and the nearest at or above (its upper position); 0 if the price is not 1 to
+ * GUVONTSIRA_MAX_PRICE. The price is legal exactly where the two are equal and
+ * not 0, and then they are its position. So 65.60 has 762, of 65.50, and 763, of
+ * 65.75.
+ */
+uint32_t guvontsira_lower_position(uint32_t price);
+uint32_t guvontsira_upper_position(uint32_t price);
 
 /* The price in satang at a ladder position; 0 if there is no such position. */
 uint32_t guvontsira_price(uint32_t position);

@@ -285,6 +285,27 @@ static void ladder(void)
     MEANS(MAX_POSITION, 0, guvontsira_price(GUVONTSIRA_MAX_POSITION + 1));
 }
 
+/* The price, and the two positions nearest to it. */
+static void between(uint32_t price, uint32_t lower, uint32_t upper)
+{
+    same("lower position of", price, lower, guvontsira_lower_position(price));
+    same("upper position of", price, upper, guvontsira_upper_position(price));
+    same("position of", price, lower == upper ? lower : 0, guvontsira_position(price));
+}
+
+static void nearest(void)
+{
+    between(0, 0, 0);
+    between(1, 1, 1);
+    between(6550, 762, 762);
+    between(6560, 762, 763);
+    between(6575, 763, 763);
+    between(GUVONTSIRA_MAX_PRICE - 1, GUVONTSIRA_MAX_POSITION - 1, GUVONTSIRA_MAX_POSITION);
+    between(GUVONTSIRA_MAX_PRICE, GUVONTSIRA_MAX_POSITION, GUVONTSIRA_MAX_POSITION);
+    between(GUVONTSIRA_MAX_PRICE + 1, 0, 0);
+    between(UINT32_MAX, 0, 0);
+}
+
 static void market(void)
 {
     const uint16_t security = 3;
@@ -301,14 +322,18 @@ static void market(void)
     STANDS(HEADER_SESSION_WORD, 0, GUVONTSIRA_SESSION_PRE_CLOSE);
     ANSWERS(REFUSED_CODE, session(GUVONTSIRA_SESSION_PRE_CLOSE + 1));
 
-    ANSWERS(OK, setup((struct setup){security, 50, 1, 0, 65600, 1201}));
+    /* 656.01 and 12.01 are no legal prices. */
+    ANSWERS(OK, setup((struct setup){security, 50, 1, 0, 65601, 1201}));
     STANDS(SECURITY_LOT_WORD, start, 50);
     STANDS(SECURITY_FREE_WORD, start, 1);
     STANDS(SECURITY_FIRST_DAY_WORD, start, 0);
-    STANDS(SECURITY_PRIOR_CLOSE_WORD, start, 65600);
+    STANDS(SECURITY_PRIOR_CLOSE_WORD, start, 65601);
     STANDS(SECURITY_IPO_WORD, start, 1201);
-    ANSWERS(REFUSED_NAME, setup((struct setup){SECURITIES, 50, 1, 0, 65600, 1201}));
-    ANSWERS(REFUSED_PRICE, setup((struct setup){security, 50, 1, 0, 1201, 65600}));
+    ANSWERS(REFUSED_NAME, setup((struct setup){SECURITIES, 50, 1, 0, 65601, 1201}));
+    MEANS(MAX_PRICE, GUVONTSIRA_OK,
+          setup((struct setup){security, 50, 1, 0, GUVONTSIRA_MAX_PRICE, GUVONTSIRA_MAX_PRICE}));
+    ANSWERS(REFUSED_PRICE, setup((struct setup){security, 50, 1, 0, GUVONTSIRA_MAX_PRICE + 1, 0}));
+    ANSWERS(REFUSED_PRICE, setup((struct setup){security, 50, 1, 0, 0, GUVONTSIRA_MAX_PRICE + 1}));
 
     MEANS(BOARD_MAIN, GUVONTSIRA_OK,
           prices((struct prices){security, GUVONTSIRA_BOARD_MAIN, 5000, 4975, 4950, 5025}));
@@ -495,6 +520,42 @@ static void rests(void)
     STANDS(ROW_PRICE_WORD, first, 5050);
 }
 
+/*
+ * A right has gone, and the prior close lies between 65.50 and 65.75: warn 10
+ * counts up from its lower position and down from its upper one.
+ */
+static void adjusted_close(void)
+{
+    const uint16_t security = 2;
+    const size_t close = GUVONTSIRA_SECURITY_START(security) + GUVONTSIRA_SECURITY_PRIOR_CLOSE_WORD;
+    struct order buy = {.security = security, .channel = GUVONTSIRA_CHANNEL_ONLINE, .volume = 100};
+    const struct {
+        uint32_t price, answer;
+    } limits[] = {{6800, GUVONTSIRA_ACCEPT},
+                  {6825, GUVONTSIRA_WARN_10},
+                  {6325, GUVONTSIRA_ACCEPT},
+                  {6300, GUVONTSIRA_WARN_10}};
+
+    make();
+    session(GUVONTSIRA_SESSION_PRE_OPEN);
+    ANSWERS(OK, setup((struct setup){.security = security, .lot = 100, .prior_close = 6560}));
+    for (size_t i = 0; i < COUNT(limits); i++) {
+        buy.number++;
+        buy.price = limits[i].price;
+        same("prior close 65.60, limit", buy.price, limits[i].answer, order(buy));
+    }
+    ANSWERS(REFUSED_PRICE, prices((struct prices){.security = security, .last = 6560}));
+    buy.number++;
+    buy.price = 6560;
+    ANSWERS(REFUSED_PRICE, order(buy));
+
+    /* It is sound up to the last price. */
+    words[close] = GUVONTSIRA_MAX_PRICE;
+    MEANS(MAX_PRICE, GUVONTSIRA_OK, session(GUVONTSIRA_SESSION_PRE_OPEN));
+    words[close] = GUVONTSIRA_MAX_PRICE + 1;
+    ANSWERS(REFUSED_RECORD, session(GUVONTSIRA_SESSION_PRE_OPEN));
+}
+
 /* The channels differ by warn 10, which skips the front office, and W, online only. */
 static void verdicts(void)
 {
@@ -624,6 +685,8 @@ static void deepest(void)
                         COUNT(answers));
     far_answer = answers[2];
     guvontsira_price(77);
+    guvontsira_lower_position(6560);
+    guvontsira_upper_position(6560);
 }
 
 static void depth(void)
@@ -658,10 +721,12 @@ int main(void)
     lengths();
     list();
     ladder();
+    nearest();
     market();
     types();
     rows();
     rests();
+    adjusted_close();
     verdicts();
     full_desk();
     texts();

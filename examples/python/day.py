@@ -11,7 +11,7 @@ import pathlib
 import struct
 import sys
 
-VERSION = 20000  # GUVONTSIRA_VERSION of include/guvontsira.h, whose numbers stand here too
+VERSION = 30000  # GUVONTSIRA_VERSION of include/guvontsira.h, whose numbers stand here too
 
 CLOCK, SESSION, SETUP, PRICES, ORDER, CANCEL, MATCH, REST = range(1, 9)
 CLOSED, PRE_OPEN, OPEN, BREAK, PRE_CLOSE = range(5)

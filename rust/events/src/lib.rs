@@ -4,7 +4,7 @@
 //! # What follows a number sign is a comment.
 //! clock 09:55:00.000
 //! session open
-//! setup 0 lot 100 free first-day close 65.50 ipo 12.00
+//! setup 0 lot 100 free first-day close 65.60 ipo 12.00
 //! prices 0 main projected - last 50.00 bid 49.75 offer 50.25
 //! order 0 no 1 security 0 main buy limit 50.00 x 100 online
 //! order 0 no 5 security 0 foreign sell atc x 100 dma

@@ -20,6 +20,10 @@ session 5
 session 255
 setup 0 lot 100 close - ipo -
 setup 65535 lot 255 free first-day close 65.50 ipo 12.00
+setup 1 lot 100 close 65.60 ipo 12.01
+setup 1 lot 100 close 99999.99 ipo -
+setup 1 lot 100 close 100000.00 ipo 100000.00
+setup 1 lot 100 close 100000.01 ipo 100000.01
 setup 3 lot 0 free 2 first-day 255 close 42949672.95 ipo 0.01
 prices 0 main projected - last 50.00 bid 49.75 offer 50.25
 prices 1 foreign projected 0.09 last - bid - offer 100000.00
@@ -67,6 +71,17 @@ fn lines_mean_what_they_say() {
                 first_day: 1,
                 prior_close: 65_50,
                 ipo: 12_00,
+            }),
+        ),
+        (
+            "setup 8 lot 100 close 65.60",
+            Event::Setup(Setup {
+                security: 8,
+                lot: 100,
+                free: 0,
+                first_day: 0,
+                prior_close: 65_60,
+                ipo: 0,
             }),
         ),
         (

@@ -28,7 +28,8 @@ pub enum Answer {
     Accept,
     /// The order may go out; its price is outside 70% to 130% of the last sale.
     Warn30,
-    /// The order may go out; its price is more than ten positions away.
+    /// The order may go out; its position is more than ten above the lower
+    /// position of the reference price, or more than ten below the upper one.
     Warn10,
     /// The order must not go out.
     Reject(Rule),

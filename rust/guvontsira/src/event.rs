@@ -32,8 +32,9 @@ pub enum Event {
         /// Whether there is no ceiling and floor.
         free: bool,
         first_day: bool,
+        /// Up to [`MAX_PRICE`](crate::MAX_PRICE), also off the ladder.
         prior_close: u32,
-        /// Also off the ladder.
+        /// Up to [`MAX_PRICE`](crate::MAX_PRICE), also off the ladder.
         ipo: u32,
     },
     /// All four prices of one board.

@@ -26,6 +26,7 @@ mod answer;
 mod codes;
 mod desk;
 mod event;
+mod ladder;
 mod layout;
 #[allow(unsafe_code)]
 pub mod library;
@@ -38,31 +39,11 @@ pub use answer::{Answer, Refused, Rule};
 pub use codes::{Board, Channel, Mark, OrderType, Session, Side};
 pub use desk::{Desk, Row};
 pub use event::Event;
+pub use ladder::{MAX_POSITION, MAX_PRICE, Nearest, nearest, position, price};
 pub use release::{RELEASE, VERSION};
 pub use security::{Prices, Security};
 pub use state::State;
 pub use time::Time;
-
-/// The ladder position of a price in satang; `None` if it is off the ladder.
-///
-/// ```
-/// assert_eq!(guvontsira::position(400_00), Some(1300));
-/// assert_eq!(guvontsira::position(400_01), None);
-/// ```
-pub fn position(price: u32) -> Option<u32> {
-    Some(library::position(price)).filter(|&position| position != 0)
-}
-
-/// The price in satang at a ladder position; `None` if there is no such
-/// position.
-///
-/// ```
-/// assert_eq!(guvontsira::price(1300), Some(400_00));
-/// assert_eq!(guvontsira::price(0), None);
-/// ```
-pub fn price(position: u32) -> Option<u32> {
-    Some(library::price(position)).filter(|&price| price != 0)
-}
 
 /// The README's Rust compiles and runs as printed.
 #[cfg(doctest)]

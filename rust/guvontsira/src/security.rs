@@ -19,9 +19,9 @@ pub struct Security {
     /// Whether there is no ceiling and floor.
     pub free: bool,
     pub first_day: bool,
-    /// In satang; 0 is an absent one.
+    /// In satang, also off the ladder; 0 is an absent one.
     pub prior_close: u32,
-    /// In satang; 0 is an absent one.
+    /// In satang, also off the ladder; 0 is an absent one.
     pub ipo: u32,
     pub main: Prices,
     pub foreign: Prices,

@@ -3,7 +3,7 @@
 
 use std::fs;
 
-use guvontsira::{Answer, State, position, price};
+use guvontsira::{Answer, Nearest, State, nearest, position, price};
 
 fn document(name: &str) -> String {
     let path = format!("{}/../../docs/{name}", env!("CARGO_MANIFEST_DIR"));
@@ -46,15 +46,18 @@ fn satang(baht: &str) -> u32 {
     baht.replace('.', "").parse().unwrap()
 }
 
+/// The row of the ladder's tables that begins so, without its first cell.
+fn ladder_row(rules: &str, name: &str) -> Vec<String> {
+    let mut words = section(rules, "Words").lines();
+    let row = words.find(|line| line.starts_with(&format!("| {name}")));
+    cells(row.unwrap_or_else(|| panic!("no row {name:?}")))[1..].to_vec()
+}
+
 #[test]
 fn the_ladder() {
     let rules = document("RULES.md");
-    let row = |name| {
-        let words = section(&rules, "Words");
-        let row = words.lines().find(|line| line.starts_with(name)).unwrap();
-        cells(row)[1..].to_vec()
-    };
-    let (from, step, first) = (row("| from"), row("| step"), row("| position of"));
+    let row = |name| ladder_row(&rules, name);
+    let (from, step, first) = (row("from"), row("step"), row("position of"));
     assert_eq!([from.len(), step.len(), first.len()], [8; 3]);
     for ((from, step), first) in from.iter().zip(&step).zip(&first) {
         let (from, step, first) = (satang(from), satang(step), first.parse().unwrap());
@@ -63,6 +66,23 @@ fn the_ladder() {
         assert_eq!(position(from + step), Some(first + 1));
         let below = (first > 1).then_some(first - 1);
         assert_eq!(price(first - 1).and_then(position), below);
+    }
+}
+
+#[test]
+fn the_nearest_positions() {
+    let rules = document("RULES.md");
+    let row = |name| ladder_row(&rules, name);
+    let (prices, legal) = (row("price (baht)"), row("legal"));
+    let (lower, upper) = (row("lower position"), row("upper position"));
+    assert_eq!([lower.len(), upper.len(), legal.len()], [prices.len(); 3]);
+    for (place, price) in prices.iter().enumerate() {
+        let printed = Nearest {
+            lower: lower[place].parse().unwrap(),
+            upper: upper[place].parse().unwrap(),
+            legal: legal[place] == "yes",
+        };
+        assert_eq!(nearest(satang(price)), Some(printed), "{price}");
     }
 }
 

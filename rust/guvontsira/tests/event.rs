@@ -130,13 +130,13 @@ fn as_the_text_form() {
         ("clock 09:55:00.250", Event::Clock { time: 35_700_250 }),
         ("session pre-open", session(Session::PreOpen)),
         (
-            "setup 7 lot 50 first-day close 65.50 ipo 12.00",
+            "setup 7 lot 50 first-day close 65.60 ipo 12.00",
             Event::Setup {
                 security: 7,
                 lot: 50,
                 free: false,
                 first_day: true,
-                prior_close: 65_50,
+                prior_close: 65_60,
                 ipo: 12_00,
             },
         ),

@@ -2,7 +2,7 @@
 
 use guvontsira::{
     Answer, Board, Channel, Event, Mark, OrderType, Prices, Row, Rule, Security, Session, Side,
-    State, Time, VERSION, library, position, price,
+    State, Time, VERSION, library,
 };
 
 fn answers(state: &mut State, text: &str) -> Vec<String> {
@@ -196,7 +196,7 @@ fn a_market() {
         "\
 clock 16:30:00.250
 session pre-close
-setup 2 lot 50 free close 65.50 ipo 12.01
+setup 2 lot 50 free close 65.60 ipo 12.01
 setup 1 lot 1 first-day
 prices 2 main projected 50.00 last 49.75 bid 49.50 offer 50.25
 prices 2 foreign projected 40.00 last 39.75 bid 39.50 offer 40.25
@@ -212,7 +212,7 @@ prices 2 foreign projected 40.00 last 39.75 bid 39.50 offer 40.25
         (security.lot, security.free, security.first_day),
         (50, true, false)
     );
-    assert_eq!((security.prior_close, security.ipo), (65_50, 12_01));
+    assert_eq!((security.prior_close, security.ipo), (65_60, 12_01));
     let main = Prices {
         projected: 50_00,
         last: 49_75,
@@ -357,17 +357,4 @@ fn runs_of_any_length() {
     assert_eq!((handled, numbers), (3, [0, 0, 3, 77]));
     let handled = library::run(&mut state.words().to_vec(), &shortest, &mut numbers[..2]);
     assert_eq!(handled, 2);
-}
-
-#[test]
-fn ladder() {
-    assert_eq!(position(1), Some(1));
-    assert_eq!(position(1_99), Some(199));
-    assert_eq!(position(10_000_000), Some(51_100));
-    assert_eq!(position(0), None);
-    assert_eq!(position(2_01), None);
-    assert_eq!(position(10_000_200), None);
-    assert_eq!(price(51_100), Some(10_000_000));
-    assert_eq!(price(0), None);
-    assert_eq!(price(51_101), None);
 }

@@ -20,7 +20,7 @@ pub const ANSWERS: [(&str, &str); 21] = [
     ("refused 3", "unknown kind of event"),
     ("refused 4", "no such customer or security"),
     ("refused 5", "code outside its list, time past 23:59:59.999, or order number 0"),
-    ("refused 6", "price off the ladder, or where none may stand"),
+    ("refused 6", "price off the ladder or above 100000.00, or where none may stand"),
     ("refused 7", "earlier than the clock"),
     ("refused 8", "damaged record in the state"),
     ("refused 9", "number of an order that is open or was cancelled within a minute"),

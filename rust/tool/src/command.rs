@@ -4,6 +4,7 @@ use std::ffi::OsString;
 use std::path::PathBuf;
 
 use events::{AnyOf, number, satang};
+use guvontsira::MAX_PRICE;
 
 use crate::answers::CLASSES;
 use crate::arguments::{Arguments, text, wrong};
@@ -25,7 +26,7 @@ pub enum Command {
         security: u32,
     },
     Ladder {
-        /// In satang.
+        /// In satang, 1 to [`MAX_PRICE`].
         price: u32,
     },
     Encode {
@@ -109,11 +110,11 @@ fn security(mut arguments: Arguments) -> Result<Command, Failure> {
 }
 
 fn ladder(arguments: Arguments) -> Result<Command, Failure> {
-    let wanted = "a price in baht, 0.01 to 100000.00";
+    let wanted = "a price in baht with two decimals, 0.01 to 100000.00";
     let [word] = arguments.words([wanted])?;
     let word = text(word);
     match satang(&word) {
-        Some(price @ 1..=100_000_00) => Ok(Command::Ladder { price }),
+        Some(price @ 1..=MAX_PRICE) => Ok(Command::Ladder { price }),
         _ => Err(wrong(&word, wanted)),
     }
 }

@@ -1,26 +1,26 @@
 //! Where a price stands among the legal prices.
 
 use std::io::{self, Write};
-use std::ops::RangeInclusive;
 
 use events::Price;
+use guvontsira::{MAX_POSITION, MAX_PRICE, Nearest};
 
 use crate::table::{self, Column};
 
-/// The price is 1 to 10,000,000 satang.
+/// The lowest and the highest legal price within, as the library gives them.
+type Band = [Option<u32>; 2];
+
+/// The price is 1 to [`MAX_PRICE`].
 pub fn write(out: &mut impl Write, price: u32) -> io::Result<()> {
-    let ladder = Ladder::read();
-    match guvontsira::position(price) {
-        Some(position) => writeln!(out, "{} is position {position}", Price(price))?,
-        None => writeln!(out, "{} is no legal price", Price(price))?,
-    }
-    writeln!(out, "next below  {}", Price(ladder.below(price)))?;
-    writeln!(out, "next above  {}", Price(ladder.above(price)))?;
+    let nearest = guvontsira::nearest(price).expect("the ladder answers for the price");
+    writeln!(out, "{}", standing(price, nearest))?;
+    writeln!(out, "next below  {}", shown(at_or_below(price - 1)))?;
+    writeln!(out, "next above  {}", shown(at_or_above(price + 1)))?;
     writeln!(out)?;
     let bands = [
-        ("10 positions", "warn 10", ladder.positions(price, 10)),
-        ("30 percent", "warn 30", ladder.percent(price, 30)),
-        ("50 percent", "reject Q", ladder.percent(price, 50)),
+        ("10 positions", "warn 10", positions(nearest, 10)),
+        ("30 percent", "warn 30", percent(price, 30)),
+        ("50 percent", "reject Q", percent(price, 50)),
     ];
     let columns = [
         Column::Left("legal within"),
@@ -29,107 +29,145 @@ pub fn write(out: &mut impl Write, price: u32) -> io::Result<()> {
         Column::Left("outside"),
     ];
     let rows = bands.map(|(within, outside, band)| {
-        let ends = [band.start(), band.end()].map(|&price| Price(price).to_string());
-        let [from, to] = ends;
+        let [from, to] = band.map(shown);
         [within.to_string(), from, to, outside.to_string()]
     });
     table::write(out, columns, &rows)
 }
 
-/// All legal prices in satang, from position 1.
-struct Ladder(Vec<u32>);
-
-impl Ladder {
-    fn read() -> Self {
-        Ladder((1..).map_while(guvontsira::price).collect())
+fn standing(price: u32, nearest: Nearest) -> String {
+    let price = Price(price);
+    match nearest.legal {
+        true => format!("{price} is legal, position {}", nearest.lower),
+        false => format!("{price} is not legal, {}", two_positions(nearest)),
     }
+}
 
-    /// How many legal prices are below.
-    fn count_below(&self, price: u32) -> usize {
-        self.0.partition_point(|&legal| legal < price)
-    }
+/// Of a price between two steps.
+pub fn two_positions(nearest: Nearest) -> String {
+    let Nearest { lower, upper, .. } = nearest;
+    let [below, above] = [lower, upper].map(|position| shown(guvontsira::price(position)));
+    format!("lower position {lower} ({below}), upper position {upper} ({above})")
+}
 
-    /// How many legal prices are not above.
-    fn count_up_to(&self, price: u32) -> usize {
-        self.0.partition_point(|&legal| legal <= price)
-    }
+fn shown(price: Option<u32>) -> String {
+    Price(price.unwrap_or(0)).to_string()
+}
 
-    /// 0 if there is none.
-    fn below(&self, price: u32) -> u32 {
-        let count = self.count_below(price);
-        count.checked_sub(1).map_or(0, |place| self.0[place])
-    }
+/// The highest legal price at or below.
+fn at_or_below(price: u32) -> Option<u32> {
+    guvontsira::price(guvontsira::nearest(price)?.lower)
+}
 
-    /// 0 if there is none.
-    fn above(&self, price: u32) -> u32 {
-        self.0.get(self.count_up_to(price)).copied().unwrap_or(0)
-    }
+/// The lowest legal price at or above.
+fn at_or_above(price: u32) -> Option<u32> {
+    guvontsira::price(guvontsira::nearest(price)?.upper)
+}
 
-    /// From a price between two steps, positions are counted down from the one
-    /// above and up from the one below.
-    fn positions(&self, price: u32, count: usize) -> RangeInclusive<u32> {
-        let last = self.0.len() - 1;
-        let upper = self.count_below(price);
-        let lower = self.count_up_to(price) - 1;
-        self.0[upper.saturating_sub(count)]..=self.0[last.min(lower + count)]
-    }
+/// Paper 02, request 2: "counts up from the lower and down from the upper
+/// position".
+fn positions(nearest: Nearest, count: u32) -> Band {
+    let from = nearest.upper.saturating_sub(count).max(1);
+    let to = (nearest.lower + count).min(MAX_POSITION);
+    [from, to].map(guvontsira::price)
+}
 
-    /// As the rules take it: exact, and not rounded to the ladder.
-    fn percent(&self, price: u32, percent: u32) -> RangeInclusive<u32> {
-        let (low, high) = (price * (100 - percent), price * (100 + percent));
-        let from = self.0.partition_point(|&legal| legal * 100 < low);
-        let past = self.0.partition_point(|&legal| legal * 100 <= high);
-        self.0[from]..=self.0[past - 1]
-    }
+/// The rules compare 100 times a price with the percentage, exactly: so the low
+/// end is rounded up to whole satang and the high end down.
+fn percent(price: u32, percent: u32) -> Band {
+    let low = (price * (100 - percent)).div_ceil(100);
+    let high = price * (100 + percent) / 100;
+    [at_or_above(low), at_or_below(high.min(MAX_PRICE))]
 }
 
 #[cfg(test)]
 mod tests {
     use super::*;
 
+    fn band(from: u32, to: u32) -> Band {
+        [Some(from), Some(to)]
+    }
+
+    fn ten(price: u32) -> Band {
+        positions(guvontsira::nearest(price).unwrap(), 10)
+    }
+
     /// Paper 01, "Along each edge".
     #[test]
     fn edges() {
-        let ladder = Ladder::read();
-        assert_eq!(ladder.percent(10_00, 50), 5_00..=15_00);
-        assert_eq!(ladder.percent(10_00, 30), 7_00..=13_00);
-        assert_eq!(ladder.positions(24_50, 10), 23_50..=26_25);
-        assert_eq!((ladder.below(10_00), ladder.above(15_00)), (9_95, 15_10));
+        assert_eq!(percent(10_00, 50), band(5_00, 15_00));
+        assert_eq!(percent(10_00, 30), band(7_00, 13_00));
+        assert_eq!(ten(24_50), band(23_50, 26_25));
     }
 
     #[test]
-    fn ends_and_between() {
-        let ladder = Ladder::read();
-        assert_eq!(ladder.0.len(), 51_100);
-        assert_eq!((ladder.below(1), ladder.above(1)), (0, 2));
-        let last = 100_000_00;
-        assert_eq!((ladder.below(last), ladder.above(last)), (99_998_00, 0));
-        assert_eq!(ladder.positions(1, 10), 1..=11);
-        assert_eq!(ladder.positions(last, 10), 99_980_00..=last);
-        assert_eq!(ladder.percent(1, 50), 1..=1);
-        assert_eq!(ladder.percent(last, 30), 70_000_00..=last);
-        // 65.60, paper 02's adjusted close, lies between 65.50 and 65.75.
-        assert_eq!((ladder.below(65_60), ladder.above(65_60)), (65_50, 65_75));
-        assert_eq!(ladder.positions(65_60, 10), 63_25..=68_00);
+    fn ends() {
+        assert_eq!(ten(1), band(1, 11));
+        assert_eq!(ten(5), band(1, 15));
+        assert_eq!(ten(11), band(1, 21));
+        assert_eq!(ten(12), band(2, 22));
+        assert_eq!(ten(MAX_PRICE), band(99_980_00, MAX_PRICE));
+        assert_eq!(ten(99_999_99), band(99_980_00, MAX_PRICE));
+        assert_eq!(ten(99_979_99), band(99_960_00, 99_998_00));
+        assert_eq!(percent(1, 50), band(1, 1));
+        assert_eq!(percent(MAX_PRICE, 30), band(70_000_00, MAX_PRICE));
+        assert_eq!(percent(99_999_99, 50), band(50_000_00, MAX_PRICE));
     }
 
-    /// Legal prices, which lie within their bands, and those beside them.
+    /// Paper 02's adjusted close, and prices one satang from a band's first.
     #[test]
-    fn every_price_has_its_bands() {
-        let ladder = Ladder::read();
-        let beside = |&legal: &u32| [legal - 1, legal, legal + 1];
-        for price in ladder.0.iter().flat_map(beside) {
-            if !(1..=100_000_00).contains(&price) {
-                continue;
-            }
-            let bands = [
-                ladder.positions(price, 10),
-                ladder.percent(price, 30),
-                ladder.percent(price, 50),
-            ];
-            let legal = guvontsira::position(price).is_some();
-            for band in bands {
-                assert!(!legal || band.contains(&price), "{price}: {band:?}");
+    fn between_two_steps() {
+        assert_eq!(ten(65_60), band(63_25, 68_00));
+        assert_eq!(ten(1_99), band(1_89, 2_18));
+        assert_eq!(ten(2_01), band(1_91, 2_20));
+        assert_eq!(ten(4_99), band(4_80, 5_45));
+        assert_eq!(ten(5_01), band(4_82, 5_50));
+        assert_eq!(ten(9_99), band(9_50, 10_90));
+        assert_eq!(ten(10_01), band(9_55, 11_00));
+        assert_eq!(ten(24_99), band(24_00, 27_25));
+        assert_eq!(ten(25_01), band(24_10, 27_50));
+        assert_eq!(ten(99_99), band(97_50, 104_50));
+        assert_eq!(ten(100_01), band(97_75, 105_00));
+        assert_eq!(ten(199_99), band(195_00, 209_00));
+        assert_eq!(ten(200_01), band(195_50, 210_00));
+        assert_eq!(ten(399_99), band(390_00, 418_00));
+        assert_eq!(ten(400_01), band(391_00, 420_00));
+    }
+
+    /// A percentage of a price that is no whole satang: 50% of 12.01 is 6.005,
+    /// and 150% of it 18.015.
+    #[test]
+    fn no_whole_satang() {
+        assert_eq!(percent(12_01, 50), band(6_05, 18_00));
+        assert_eq!(percent(3, 50), band(2, 4));
+        assert_eq!(percent(3, 30), band(3, 3));
+        assert_eq!(percent(1_99, 30), band(1_40, 2_58));
+    }
+
+    /// Legal prices and those beside them, by the places of the list of all legal
+    /// prices.
+    #[test]
+    fn beside_every_legal_price() {
+        let legal: Vec<u32> = (1..).map_while(guvontsira::price).collect();
+        let last = legal.len() - 1;
+        let beside = legal
+            .iter()
+            .flat_map(|&price| [price - 1, price, price + 1]);
+        for price in beside.filter(|price| (1..=MAX_PRICE).contains(price)) {
+            let upper = legal.partition_point(|&p| p < price);
+            let lower = legal.partition_point(|&p| p <= price) - 1;
+            let below = upper.checked_sub(1).map(|place| legal[place]);
+            assert_eq!(at_or_below(price - 1), below, "{price}");
+            let above = legal.get(lower + 1).copied();
+            assert_eq!(at_or_above(price + 1), above, "{price}");
+            let (from, to) = (upper.saturating_sub(10), last.min(lower + 10));
+            assert_eq!(ten(price), band(legal[from], legal[to]), "{price}");
+            for width in [30, 50] {
+                let (low, high) = (price * (100 - width), price * (100 + width));
+                let from = legal.partition_point(|&p| p * 100 < low);
+                let past = legal.partition_point(|&p| p * 100 <= high);
+                let exact = band(legal[from], legal[past - 1]);
+                assert_eq!(percent(price, width), exact, "{price}");
             }
         }
     }

@@ -6,6 +6,7 @@ use events::words::BOARDS;
 use events::{Code, Price};
 use guvontsira::{Board, Security};
 
+use crate::ladder::two_positions;
 use crate::table::{self, Column};
 
 pub fn write(out: &mut impl Write, security: &Security) -> io::Result<()> {
@@ -17,7 +18,7 @@ pub fn write(out: &mut impl Write, security: &Security) -> io::Result<()> {
     writeln!(out, "lot          {}", security.lot)?;
     writeln!(out, "free         {free}")?;
     writeln!(out, "first day    {first_day}")?;
-    writeln!(out, "prior close  {}", Price(security.prior_close))?;
+    writeln!(out, "prior close  {}", prior_close(security.prior_close))?;
     writeln!(out, "IPO price    {}", Price(security.ipo))?;
     writeln!(out)?;
     let columns = [
@@ -42,4 +43,13 @@ pub fn write(out: &mut impl Write, security: &Security) -> io::Result<()> {
         })
         .collect();
     table::write(out, columns, &rows)
+}
+
+/// Warn 10 counts from both positions of a prior close between two steps.
+fn prior_close(satang: u32) -> String {
+    let price = Price(satang);
+    match guvontsira::nearest(satang).filter(|nearest| !nearest.legal) {
+        Some(between) => format!("{price}, {}", two_positions(between)),
+        None => price.to_string(),
+    }
 }

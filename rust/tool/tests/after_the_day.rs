@@ -8,6 +8,9 @@ const DAY: &[u8] = b"\
 clock 10:00:00
 session pre-close
 setup 3 lot 50 free ipo 12.05
+setup 4 lot 100 close 65.60
+setup 5 lot 100 close 65.50
+setup 5 lot 100 close 100000.01
 prices 3 foreign projected 12.00 last 11.90 bid 11.80 offer 12.10
 order 1 no 70000 security 3 main sell limit 12.00 x 1000 online
 order 1 no 8 security 15 foreign buy limit 1000.00 x 100 front
@@ -133,6 +136,12 @@ main             -  20.00  19.90  20.10
 foreign          -      -      -      -
 "
     );
+    let adjusted = out(&["security", "-", "4"], DAY);
+    assert!(adjusted.contains(
+        "\nprior close  65.60, lower position 762 (65.50), upper position 763 (65.75)\n"
+    ));
+    // The last setup is refused.
+    assert!(out(&["security", "-", "5"], DAY).contains("\nprior close  65.50\n"));
     let last = out(&["security", "-", "1023", "--securities", "1024"], b"");
     assert!(last.starts_with("security 1023 at "));
 }
@@ -151,7 +160,7 @@ fn ladder() {
     assert_eq!(
         out(&["ladder", "50.00"], b""),
         "\
-50.00 is position 700
+50.00 is legal, position 700
 next below  49.75
 next above  50.25
 
@@ -161,21 +170,95 @@ legal within   from     to  outside
 50 percent    25.00  75.00  reject Q
 "
     );
-    let table = [
-        (
-            "0.01",
-            "0.01 is position 1\nnext below  -\nnext above  0.02\n",
-        ),
-        (
-            "65.60",
-            "65.60 is no legal price\nnext below  65.50\nnext above  65.75\n",
-        ),
-        (
-            "100000.00",
-            "100000.00 is position 51100\nnext below  99998.00\nnext above  -\n",
-        ),
-    ];
-    for (price, lines) in table {
-        assert!(out(&["ladder", price], b"").starts_with(lines), "{price}");
+    assert_eq!(
+        out(&["ladder", "0.01"], b""),
+        "\
+0.01 is legal, position 1
+next below  -
+next above  0.02
+
+legal within  from    to  outside
+10 positions  0.01  0.11  warn 10
+30 percent    0.01  0.01  warn 30
+50 percent    0.01  0.01  reject Q
+"
+    );
+    assert_eq!(
+        out(&["ladder", "100000.00"], b""),
+        "\
+100000.00 is legal, position 51100
+next below  99998.00
+next above  -
+
+legal within      from         to  outside
+10 positions  99980.00  100000.00  warn 10
+30 percent    70000.00  100000.00  warn 30
+50 percent    50000.00  100000.00  reject Q
+"
+    );
+}
+
+#[test]
+fn ladder_between_two_steps() {
+    assert_eq!(
+        out(&["ladder", "65.60"], b""),
+        "\
+65.60 is not legal, lower position 762 (65.50), upper position 763 (65.75)
+next below  65.50
+next above  65.75
+
+legal within   from     to  outside
+10 positions  63.25  68.00  warn 10
+30 percent    46.00  85.25  warn 30
+50 percent    33.00  98.25  reject Q
+"
+    );
+    assert_eq!(
+        out(&["ladder", "99999.99"], b""),
+        "\
+99999.99 is not legal, lower position 51099 (99998.00), upper position 51100 (100000.00)
+next below  99998.00
+next above  100000.00
+
+legal within      from         to  outside
+10 positions  99980.00  100000.00  warn 10
+30 percent    70000.00  100000.00  warn 30
+50 percent    50000.00  100000.00  reject Q
+"
+    );
+}
+
+/// What the ladder says of a price in the line that begins so.
+fn ladder_line(price: &str, name: &str) -> Vec<String> {
+    let ladder = out(&["ladder", price], b"");
+    let line = ladder.lines().find_map(|line| line.strip_prefix(name));
+    let words = line.unwrap().split_whitespace();
+    words.map(str::to_string).collect()
+}
+
+/// Orders at the ends of the ten positions, and one step past them.
+#[test]
+fn ladder_and_orders() {
+    let answer = |close: &str, limit: &str| {
+        let day = format!(
+            "session pre-open\nsetup 0 lot 100 close {close}\n\
+             order 0 no 1 security 0 main buy limit {limit} x 100 online\n"
+        );
+        let answers = out(&["day", "-", "--quiet"], day.as_bytes());
+        answers.strip_prefix("ok\nok\n").unwrap().to_string()
+    };
+    for close in [
+        "65.60", "24.50", "4.99", "2.01", "399.99", "0.50", "99979.99",
+    ] {
+        let band = ladder_line(close, "10 positions");
+        let (from, to) = (&band[0], &band[1]);
+        for within in [from, to] {
+            assert_eq!(answer(close, within), "accept\n", "{close}: {within}");
+        }
+        let below = ladder_line(from, "next below").concat();
+        let above = ladder_line(to, "next above").concat();
+        for outside in [below, above] {
+            assert_eq!(answer(close, &outside), "warn 10\n", "{close}: {outside}");
+        }
     }
 }

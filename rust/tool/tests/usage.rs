@@ -79,19 +79,7 @@ fn usage() {
         ),
         (
             &["ladder"],
-            "the command ends: expected a price in baht, 0.01 to 100000.00",
-        ),
-        (
-            &["ladder", "50"],
-            r#""50": expected a price in baht, 0.01 to 100000.00"#,
-        ),
-        (
-            &["ladder", "0.00"],
-            r#""0.00": expected a price in baht, 0.01 to 100000.00"#,
-        ),
-        (
-            &["ladder", "100000.01"],
-            r#""100000.01": expected a price in baht, 0.01 to 100000.00"#,
+            "the command ends: expected a price in baht with two decimals, 0.01 to 100000.00",
         ),
         (
             &["encode", "a", "b"],
@@ -107,6 +95,29 @@ fn usage() {
         assert_eq!(
             said,
             format!("guvontsira: {reason}\ntry guvontsira --help\n")
+        );
+    }
+}
+
+#[test]
+fn no_price_of_the_ladder() {
+    let words = [
+        "0",
+        "0.00",
+        "100000.01",
+        "100002.00",
+        "42949672.96",
+        "50",
+        "50.5",
+        "50.125",
+        "-",
+        "ato",
+    ];
+    for word in words {
+        let reason = "expected a price in baht with two decimals, 0.01 to 100000.00";
+        assert_eq!(
+            error(&["ladder", word], b"", 2),
+            format!("guvontsira: \"{word}\": {reason}\ntry guvontsira --help\n")
         );
     }
 }
