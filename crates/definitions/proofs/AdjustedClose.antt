@@ -1,14 +1,14 @@
 -- Paper 02, 2, "Closing prices after a right has gone": where the reference is on the ladder warn 10 is paper 01's, and a setup is refused for its prior close
 -- where that is beyond the last price and nowhere else. What the ladder answers between two steps has its laws in ladder: NearestLaws.antt.
 -- Assumes nothing.
-use mathlib.Core.Bool.{Bool, true, false, cond, _&&_, _||_, not, and-true, and-false}
+use mathlib.Core.Bool.{Bool, true, false, _&&_, _||_, not, and-true, and-false}
 use mathlib.Core.List.{List, [], _∷_}
 use mathlib.Core.Logic.{⊎-elim}
-use mathlib.Core.Path.{_≡_, refl, ap, sym, subst, _∙_}
+use mathlib.Core.Path.{_≡_, ap, _∙_}
 use Prim.Native.Nat.{ℕ, _+_, _≤_, _<_}
 use native.Mathlib.Omega.{arith}
-use lib.Dec.{ltb, eqb, lit≤}
-use borrow.Author.Tests.{eqb-true, eqb-false, ne-eqb, le-leb, lt-leb}
+use lib.Dec.{ltb, eqb}
+use borrow.Author.Tests.{eqb-true, ne-eqb, le-leb, lt-leb}
 use Rattle.ladder.specs.declared.Nearest.the-variants.{Positions}
 use Rattle.ladder.specs.Bands.{lastPrice}
 use Rattle.ladder.specs.Ladder.{bandOfPrice, legal, nearestIn, nearestTo, positionOf, positionNumber}

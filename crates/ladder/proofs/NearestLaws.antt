@@ -1,4 +1,4 @@
--- Paper 02, 2: the laws of the nearest positions. They leave the definition no choice: one position has both sides of each law, or two neighbours do.
+-- Paper 02, 2: the laws of the nearest positions. No other answer meets them (`one-answer`).
 -- Assumes nothing.
 use mathlib.Core.Bool.{Bool, true, false, cond, true≢false, and-eq-true-iff}
 use mathlib.Core.Logic.{_↔_, ⊎-elim}
@@ -10,17 +10,20 @@ use lib.Dec.{leb}
 use borrow.Author.Tests.{leb-true, le-leb, lt-leb, eq-eqb, ne-eqb}
 use Rattle.ladder.specs.declared.Band.{Band}
 use Rattle.ladder.specs.declared.NearestPositions.{NearestPositions}
-use Rattle.ladder.specs.declared.Nearest.{Nearest}
 use Rattle.ladder.specs.declared.Nearest.the-variants.{Positions, None}
 use Rattle.ladder.specs.declared.Position.the-variants.{At}
 use Rattle.ladder.specs.Bands.{firstPrice, lastPrice, positions}
 use Rattle.ladder.specs.Ladder.{bandOfPosition, bandOfPrice, isPrice, lastBand, legal, nearestIn, nearestTo, onStep, positionIn, positionOf, priceAt}
 use Rattle.ladder.proofs.Laws.{Lower, lower, legal-price, legal-true, legal-has, legal-within, legal-position, price-grows, price-order}
 
--- "the nearest position at or below, the nearest at or above, and whether the price is legal": both stand on the ladder, and nothing on it is nearer
+pub record OnLadder (k : ℕ) : Type 0 where
+  pub from-first : 1 ≤ k
+  pub to-last : k ≤ positions
+
+-- "the nearest position at or below, the nearest at or above, and whether the price is legal": nothing on the ladder is nearer
 pub record NearestAt (p : ℕ) (n : NearestPositions) : Type 0 where
-  pub from-first : 1 ≤ n .lower
-  pub to-last : n .upper ≤ positions
+  pub lower-there : OnLadder (n .lower)
+  pub upper-there : OnLadder (n .upper)
   pub at-or-below : priceAt (n .lower) ≤ p
   pub none-nearer-below : (k : ℕ) → k ≤ positions → priceAt k ≤ p → k ≤ n .lower
   pub at-or-above : p ≤ priceAt (n .upper)
@@ -46,6 +49,9 @@ module _ (p : ℕ) (first : firstPrice ≤ p) (last : p ≤ lastPrice) where
 
   there : Lower p here
   there = lower p first last
+
+  here-there : OnLadder here
+  here-there = record { from-first = there .from-first; to-last = there .to-last }
 
   on-ladder : onStep (bandOfPrice p) p ≡ true → priceAt here ≡ p
   on-ladder on = legal-has p (legal-true p (sym (legal-within p first last) ∙ on)) .price
@@ -83,8 +89,8 @@ module _ (p : ℕ) (first : firstPrice ≤ p) (last : p ≤ lastPrice) where
       → NearestAt p (record { lower = here; upper = cond t here (here + 1); legal = t })
   found true on =
       record {
-        from-first = there .from-first;
-        to-last = there .to-last;
+        lower-there = here-there;
+        upper-there = here-there;
         at-or-below = there .price;
         none-nearer-below = below;
         at-or-above = omega (arith, on-ladder on);
@@ -93,8 +99,8 @@ module _ (p : ℕ) (first : firstPrice ≤ p) (last : p ≤ lastPrice) where
       }
   found false off =
       record {
-        from-first = there .from-first;
-        to-last = omega (arith, before-last off);
+        lower-there = here-there;
+        upper-there = record { from-first = omega arith; to-last = omega (arith, before-last off) };
         at-or-below = there .price;
         none-nearer-below = below;
         at-or-above = omega (arith, there .next (before-last off));
@@ -143,6 +149,21 @@ pub nearest-at : (p : ℕ) (n : NearestPositions) → nearestTo p ≡ Positions 
 nearest-at p n e =
     let g = given p n e in
     subst (NearestAt p) (g .is) (found p (g .first) (g .last) (onStep (bandOfPrice p) p) refl)
+
+pub one-answer : (p : ℕ) (m n : NearestPositions) → NearestAt p m → NearestAt p n → m ≡ n
+one-answer p m n hm hn i = record { lower = lower-same i; upper = upper-same i; legal = (hm .legal ∙ sym (hn .legal)) i }
+  where
+    lower-same : m .lower ≡ n .lower
+    lower-same =
+        let up = hn .none-nearer-below (m .lower) (hm .lower-there .to-last) (hm .at-or-below) in
+        let down = hm .none-nearer-below (n .lower) (hn .lower-there .to-last) (hn .at-or-below) in
+        omega arith
+
+    upper-same : m .upper ≡ n .upper
+    upper-same =
+        let down = hn .none-nearer-above (m .upper) (hm .upper-there .to-last) (hm .at-or-above) in
+        let up = hm .none-nearer-above (n .upper) (hn .upper-there .to-last) (hn .at-or-above) in
+        omega arith
 
 -- a legal price has one position, and that is both
 pub at-position : (p : ℕ) (n : NearestPositions) → nearestTo p ≡ Positions n → legal p ≡ true → positionOf p ≡ At (n .lower)

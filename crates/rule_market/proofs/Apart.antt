@@ -38,4 +38,4 @@ none-apart reference k e = rw e
 -- "counts up from the lower and down from the upper position"
 pub by-price : (reference k : ℕ) {n : NearestPositions} → nearestTo reference ≡ Positions n → k ≤ positions
     → (ltb (priceAt (min (n .lower + 10) positions)) (priceAt k) || ltb (priceAt k) (priceAt (n .upper - 10))) ≡ tenApart (nearestTo reference) k
-by-price reference k {n} e last = rw (e, above (n .lower) k last, below (n .upper) k (nearest-at reference n e .to-last) last)
+by-price reference k {n} e last = rw (e, above (n .lower) k last, below (n .upper) k (nearest-at reference n e .upper-there .to-last) last)
