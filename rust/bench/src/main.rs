@@ -16,12 +16,16 @@ const SECURITIES: [u32; 3] = [1, 64, 1_024];
 const MEASURED: &str = "\
 Nanoseconds an event, one call an event, from events prepared beforehand; the
 same list for the linked gate and for the second implementation, which take
-turns. Before each repeat the words are set anew: an open session, prices for
-every security, 10 open rows on every desk. The median of the repeats is shown.
+turns. Before each repeat the words are set anew: an open session (pre-open for
+the mixture of that name), prices for every security, 10 open rows on every desk.
+The median of the repeats is shown.
   order-heavy   of 5 events: an order that leaves a row, an MP order and the
                 match of all of it, an order that is rejected, a match of a
                 whole row; an MP order now and then meets an own one, and then
                 nothing of it is matched
+  pre-open      of 4 events: an order within ten positions of the prior close,
+                which is between two steps for every other security, one
+                further away, which is warned, and two matches of whole rows
   cancel-heavy  of 3 events: an order that leaves a row, a match of a part, a
                 cancel; beside them clocks, for about 5 cancels a minute
   market-heavy  of 10 events: 7 prices, 2 clocks, 1 setup

@@ -9,14 +9,16 @@ use crate::list::{List, Recorder};
 #[derive(Clone, Copy, Debug, PartialEq, Eq)]
 pub enum Mixture {
     Orders,
+    PreOpen,
     Cancels,
     Market,
     Sessions,
 }
 
 impl Mixture {
-    pub const ALL: [Mixture; 4] = [
+    pub const ALL: [Mixture; 5] = [
         Mixture::Orders,
+        Mixture::PreOpen,
         Mixture::Cancels,
         Mixture::Market,
         Mixture::Sessions,
@@ -25,6 +27,7 @@ impl Mixture {
     pub fn name(self) -> &'static str {
         match self {
             Mixture::Orders => "order-heavy",
+            Mixture::PreOpen => "pre-open",
             Mixture::Cancels => "cancel-heavy",
             Mixture::Market => "market-heavy",
             Mixture::Sessions => "session",
@@ -39,6 +42,13 @@ impl Mixture {
             _ => 2_000,
         }
     }
+
+    fn session(self) -> u8 {
+        match self {
+            Mixture::PreOpen => PRE_OPEN,
+            _ => OPEN,
+        }
+    }
 }
 
 const OPEN_ROWS: usize = 10;
@@ -48,6 +58,9 @@ const MINUTE: u32 = 60_001;
 /// So many cancels of one customer fall into a minute, about.
 const CANCELS_A_MINUTE: usize = 5;
 
+const PRE_OPEN: u8 = 1;
+const OPEN: u8 = 2;
+const MAIN: u8 = 0;
 const BUY: u8 = 0;
 const SELL: u8 = 1;
 const LIMIT: u8 = 0;
@@ -57,12 +70,13 @@ const ONLINE: u8 = 1;
 
 /// The same list for every run and for both implementations.
 pub fn prepare(mixture: Mixture, customers: u32, securities: u32) -> List {
-    let mut writer = Writer::new(customers, securities);
+    let mut writer = Writer::new(mixture.session(), customers, securities);
     writer.open_the_day();
     writer.recorder.begin();
     while writer.recorder.len() < mixture.events() {
         match mixture {
             Mixture::Orders => writer.orders(),
+            Mixture::PreOpen => writer.pre_open(),
             Mixture::Cancels => writer.cancels(),
             Mixture::Market => writer.market(),
             Mixture::Sessions => writer.session(),
@@ -85,14 +99,14 @@ struct Writer {
 }
 
 impl Writer {
-    fn new(customers: u32, securities: u32) -> Self {
+    fn new(session: u8, customers: u32, securities: u32) -> Self {
         Writer {
             recorder: Recorder::new(customers, securities),
             random: 1,
             customers,
             securities,
             clock: OPENING,
-            session: 2,
+            session,
             number: 0,
             cancels: 0,
             open: vec![Vec::new(); customers as usize],
@@ -135,6 +149,30 @@ impl Writer {
         self.add(encode::match_report(customer, row.number, row.volume));
     }
 
+    /// Two limits that warn 10 looks at, one within ten positions of the prior
+    /// close and one further away, and two matches that remove a row each.
+    fn pre_open(&mut self) {
+        let customer = self.below(self.customers) as u16;
+        for away in [0, 11 * 25] {
+            let order = self.order(customer);
+            let price = match order.side {
+                BUY => order.price - away,
+                _ => order.price + away,
+            };
+            let order = Order {
+                board: MAIN,
+                channel: ONLINE + (order.number % 2) as u8,
+                price,
+                ..order
+            };
+            self.add_open(order);
+        }
+        for _ in 0..2 {
+            let row = self.take(customer);
+            self.add(encode::match_report(customer, row.number, row.volume));
+        }
+    }
+
     /// An order, a match of part of a row, and a cancel; the clock moves so that
     /// old cancels are forgotten.
     fn cancels(&mut self) {
@@ -171,7 +209,7 @@ impl Writer {
     }
 
     fn session(&mut self) {
-        self.session = if self.session == 2 { 1 } else { 2 };
+        self.session = if self.session == OPEN { PRE_OPEN } else { OPEN };
         self.add(encode::session(self.session));
     }
 
@@ -190,13 +228,25 @@ impl Writer {
             lot: 1,
             free: (security % 2) as u8,
             first_day: 0,
-            prior_close: 50_00,
+            prior_close: self.prior_close(security),
             ipo: 0,
         }));
     }
 
+    /// Of every other security between two steps, where it is a reference.
+    fn prior_close(&self, security: u16) -> u32 {
+        match self.session {
+            PRE_OPEN => 50_00 + 10 * u32::from(security % 2),
+            _ => 50_00,
+        }
+    }
+
+    /// Before the opening there is no last sale yet.
     fn prices(&mut self, security: u16, board: u8) {
-        let last = 49_75 + 25 * self.below(3);
+        let last = match self.session {
+            PRE_OPEN => 0,
+            _ => 49_75 + 25 * self.below(3),
+        };
         self.add(encode::prices(&Prices {
             security,
             board,
@@ -231,8 +281,12 @@ impl Writer {
 
     fn enter(&mut self, customer: u16) {
         let order = self.order(customer);
+        self.add_open(order);
+    }
+
+    fn add_open(&mut self, order: Order) {
         self.add(encode::order(&order));
-        self.open[usize::from(customer)].push(order);
+        self.open[usize::from(order.customer)].push(order);
     }
 
     fn take(&mut self, customer: u16) -> Order {
@@ -305,6 +359,19 @@ mod tests {
                 assert!((9.0..=11.0).contains(&open), "{mixture:?} {open}");
             }
         }
+    }
+
+    #[test]
+    fn half_of_the_orders_before_the_opening_are_warned() {
+        let list = prepare(Mixture::PreOpen, 16, 64);
+        let mut words = list.start.clone();
+        let (mut orders, mut warned) = (0, 0);
+        for event in list.events() {
+            let answer = gate::handle(&mut words, event);
+            orders += u32::from(event[0] == 5);
+            warned += u32::from(answer == Answer::Warn10);
+        }
+        assert_eq!((orders, warned), (1_000, 500));
     }
 
     #[test]
