@@ -1,5 +1,5 @@
--- Paper 02, 2, "Closing prices after a right has gone": where the reference is on the ladder warn 10 is paper 01's, and a setup is refused for its prior close
--- where that is beyond the last price and nowhere else. What the ladder answers between two steps has its laws in ladder: NearestLaws.antt.
+-- Paper 02, 2, "Closing prices after a right has gone": where the reference is on the ladder warn 10 is paper 01's, between two steps it counts from both, and a
+-- setup is refused for its prior close where that is beyond the last price and nowhere else.
 -- Assumes nothing.
 use mathlib.Core.Bool.{Bool, true, false, _&&_, _||_, not, and-true, and-false}
 use mathlib.Core.List.{List, [], _∷_}
@@ -10,10 +10,10 @@ use native.Mathlib.Omega.{arith}
 use lib.Dec.{ltb, eqb}
 use borrow.Author.Tests.{eqb-true, ne-eqb, le-leb, lt-leb}
 use Rattle.ladder.specs.declared.Nearest.the-variants.{Positions}
-use Rattle.ladder.specs.Bands.{lastPrice}
-use Rattle.ladder.specs.Ladder.{bandOfPrice, legal, nearestIn, nearestTo, positionOf, positionNumber}
+use Rattle.ladder.specs.Bands.{lastPrice, positions}
+use Rattle.ladder.specs.Ladder.{bandOfPrice, legal, nearestIn, nearestTo, positionOf, positionNumber, priceAt}
 use Rattle.ladder.proofs.Laws.{legal-true}
-use Rattle.ladder.proofs.NearestLaws.{answered, none-below, at-position, both-equal}
+use Rattle.ladder.proofs.NearestLaws.{answered, none-below, at-position, both-equal, lies-between}
 use Rattle.definitions.specs.declared.Security.{Security}
 use Rattle.definitions.specs.declared.MarketView.{MarketView}
 use Rattle.definitions.specs.declared.Order.{Order}
@@ -37,14 +37,21 @@ use Rattle.definitions.proofs.WellFormed.{Good, fits, records-sound}
 abbrev pub apartOnLadder : ℕ → ℕ → Bool
 apartOnLadder j k = ltb (j + 10) k || ltb (k + 10) j
 
+-- "limits, main board, sessions 1 and 4, online and DMA"
+abbrev pub coveredBy10 : ℕ → Order → Bool
+coveredBy10 session o =
+    isLimit (o .«order_type») && eqb (o .board) mainBoard && inAuction session && (eqb (o .channel) online || eqb (o .channel) dma)
+
 abbrev pub warn10OnLadder : MarketView → Order → Bool
 warn10OnLadder m o =
-    isLimit (o .«order_type»)
-    && eqb (o .board) mainBoard
-    && inAuction (m .session)
-    && (eqb (o .channel) online || eqb (o .channel) dma)
+    coveredBy10 (m .session) o
     && not (eqb (reference10 (m .security)) 0)
     && apartOnLadder (positionNumber (positionOf (reference10 (m .security)))) (positionNumber (positionOf (o .price)))
+
+-- "counts up from the lower and down from the upper position", of a reference between the positions j and j + 1
+abbrev pub warn10Between : ℕ → MarketView → Order → Bool
+warn10Between j m o =
+    coveredBy10 (m .session) o && (ltb (j + 10) (positionNumber (positionOf (o .price))) || ltb (positionNumber (positionOf (o .price)) + 10) (j + 1))
 
 legal-apart : (reference k : ℕ) → legal reference ≡ true → tenApart (nearestTo reference) k ≡ apartOnLadder (positionNumber (positionOf reference)) k
 legal-apart reference k t =
@@ -70,12 +77,16 @@ apart-same covered reference k p = ⊎-elim absent present (or-cases (eqb refere
 -- for every legal reference, and for none, the rule is paper 01's
 pub on-the-ladder : (m : MarketView) (o : Order) → priceOrAbsent (reference10 (m .security)) ≡ true → warn10 m o ≡ warn10OnLadder m o
 unfolding warn10
-on-the-ladder m o p =
-    apart-same
-    (isLimit (o .«order_type») && eqb (o .board) mainBoard && inAuction (m .session) && (eqb (o .channel) online || eqb (o .channel) dma))
-    (reference10 (m .security)) (positionNumber (positionOf (o .price))) p
+on-the-ladder m o p = apart-same (coveredBy10 (m .session) o) (reference10 (m .security)) (positionNumber (positionOf (o .price))) p
 
--- of a sound record only the prior close may stand off the ladder
+-- and for every other price
+pub between-two-steps : (m : MarketView) (o : Order) (j : ℕ) → 1 ≤ j → j < positions
+    → priceAt j < reference10 (m .security) → reference10 (m .security) < priceAt (j + 1)
+    → warn10 m o ≡ warn10Between j m o
+unfolding warn10
+between-two-steps m o j one before above below = rw (lies-between (reference10 (m .security)) j one before above below)
+
+-- of warn 10's references only the prior close may stand off the ladder
 reference-on-ladder : (s : Security) → soundPrices (s .main) ≡ true → priceOrAbsent (s .prior .close) ≡ true → priceOrAbsent (reference10 s) ≡ true
 reference-on-ladder s sound close =
     let p = s .main in

@@ -2,15 +2,15 @@
 -- under the sentence that it proves. The definitions that it names are in crates/definitions/specs, but for those that stand beside their laws: `FoundFirst` in Refused.antt, `Good`,
 -- a well-formed state, in WellFormed.antt, `AppliesFirst` in Verdicts.antt, `Belongs` in Ownership.antt, what a counter counts in Counters.antt, what a
 -- session change leaves in SessionChange.antt, `StandsIn` in Standing.antt, a row as a cancel marks it in Minute.antt, the session of an ATO, ATC or MP row
--- in SessionRows.antt, `RestLimited` and `withoutMpRows` in RestRows.antt, `MpRow` in SoundRow.antt, and paper 01's warn 10 in AdjustedClose.antt. That the code does what `outcome` says is the contract of `gate::handle`.
+-- in SessionRows.antt, `RestLimited` and `withoutMpRows` in RestRows.antt, `MpRow` in SoundRow.antt, and warn 10 on a step and between two in AdjustedClose.antt. That the code does what `outcome` says is the contract of `gate::handle`.
 -- Assumes nothing.
 use mathlib.Core.Bool.{Bool, true, not, false}
 use mathlib.Core.List.{List}
 use mathlib.Core.Logic.{_↔_}
 use mathlib.Core.Path.{_≡_, ap, sym, _∙_}
 use Prim.Native.Nat.{ℕ, _+_, _≤_, _<_}
-use Rattle.ladder.specs.Bands.{lastPrice}
-use Rattle.ladder.specs.Ladder.{legal}
+use Rattle.ladder.specs.Bands.{lastPrice, positions}
+use Rattle.ladder.specs.Ladder.{legal, priceAt}
 use Rattle.definitions.specs.declared.Row.{Row}
 use Rattle.definitions.specs.declared.MarketView.{MarketView}
 use Rattle.definitions.specs.declared.Setup.{Setup}
@@ -50,7 +50,7 @@ use Rattle.definitions.proofs.SessionRows.{InItsSession}
 use Rattle.definitions.proofs.RestRows as restRows
 use Rattle.definitions.proofs.RestRows.{isRest, RestLimited, withoutMpRows}
 use Rattle.definitions.proofs.AdjustedClose as adjustedClose
-use Rattle.definitions.proofs.AdjustedClose.{warn10OnLadder}
+use Rattle.definitions.proofs.AdjustedClose.{warn10OnLadder, warn10Between}
 use Rattle.definitions.proofs.SoundRow as soundRow
 use Rattle.definitions.proofs.SoundRow.{MpRow}
 use Rattle.definitions.proofs.SoundDesk.{desk-true}
@@ -206,7 +206,8 @@ module _ (customers securities : ℕ) (fit : sizesFit customers securities ≡ t
   pub w-without-mp-rows : (v : View) (o : Order) → ruleW (withoutMpRows v) o ≡ ruleW v o
   w-without-mp-rows = restRows.w-without-mp-rows
 
-  -- Paper 02, 2 (what the ladder answers between two steps has its laws in crates/ladder/proofs/NearestLaws.antt): "Refusal 6 .. now take[s] any prior close up to 10,000,000": a setup, read whole, of a security below S, with listed codes and an IPO price up
+  -- Paper 02, 2. What the ladder answers between two steps has its laws in crates/ladder/proofs/NearestLaws.antt.
+  -- "Refusal 6 .. now take[s] any prior close up to 10,000,000": a setup, read whole, of a security below S, with listed codes and an IPO price up
   -- to 10,000,000, is answered ok with a prior close up to that, on the ladder or not, and refused with 6 with any other
   pub close-taken : (history : List (List ℕ)) (x : Setup) → x .security < securities → soundTerms (x .terms) ≡ true → x .prior .ipo ≤ lastPrice
       → (b : List ℕ) → firstMet (bytesConditions b) ≡ 0 → eventIn b ≡ event.Setup x
@@ -221,6 +222,12 @@ module _ (customers securities : ℕ) (fit : sizesFit customers securities ≡ t
   -- "Warn 10 counts up from the lower and down from the upper position": for every legal reference, and for none, the rule is paper 01's
   pub warn-10-on-the-ladder : (m : MarketView) (o : Order) → priceOrAbsent (reference10 (m .security)) ≡ true → warn10 m o ≡ warn10OnLadder m o
   warn-10-on-the-ladder = adjustedClose.on-the-ladder
+
+  -- and for a reference between two steps, those of the positions j and j + 1, it counts up from j and down from j + 1
+  pub warn-10-between-two-steps : (m : MarketView) (o : Order) (j : ℕ) → 1 ≤ j → j < positions
+      → priceAt j < reference10 (m .security) → reference10 (m .security) < priceAt (j + 1)
+      → warn10 m o ≡ warn10Between j m o
+  warn-10-between-two-steps = adjustedClose.between-two-steps
 
   -- so that after every history an order of a security whose prior close is absent or legal gets warn 10 where paper 01 gives it: projected prices and last sales
   -- stay on the ladder

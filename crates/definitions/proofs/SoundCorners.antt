@@ -104,12 +104,6 @@ records =
     ∷ soundSecurity (terms 100 0 0 0 10_000_000) (traded 1 200 10_000_000 6575) (traded 10_000_000 6575 1 200)
     ∷ soundSecurity (terms 100 0 0 0 201) untraded untraded
     ∷ badSecurityOf (terms 100 0 0 0 10_000_001) untraded untraded
-    -- paper 02, 2: "soundness now take[s] any prior close up to 10,000,000"
-    ∷ soundSecurity (terms 100 0 0 1 0) untraded untraded
-    ∷ soundSecurity (terms 100 0 0 201 0) untraded untraded
-    ∷ soundSecurity (terms 100 0 0 6560 0) untraded untraded
-    ∷ soundSecurity (terms 100 0 0 10_000_000 0) untraded untraded
-    ∷ badSecurityOf (terms 100 0 0 10_000_001 0) untraded untraded
     ∷ badSecurityOf plain (traded 201 0 0 0) untraded
     ∷ badSecurityOf plain (traded 0 201 0 0) untraded
     ∷ badSecurityOf plain (traded 0 0 201 0) untraded
@@ -118,6 +112,12 @@ records =
     ∷ badSecurityOf plain untraded (traded 0 201 0 0)
     ∷ badSecurityOf plain untraded (traded 0 0 201 0)
     ∷ badSecurityOf plain untraded (traded 0 0 0 201)
+    -- paper 02, 2: "soundness now take[s] any prior close up to 10,000,000"
+    ∷ soundSecurity (terms 100 0 0 1 0) untraded untraded
+    ∷ soundSecurity (terms 100 0 0 201 0) untraded untraded
+    ∷ soundSecurity (terms 100 0 0 6560 0) untraded untraded
+    ∷ soundSecurity (terms 100 0 0 10_000_000 0) untraded untraded
+    ∷ badSecurityOf (terms 100 0 0 10_000_001 0) untraded untraded
     -- "marked rows stand first and free rows are all zero"
     ∷ soundRows (replicate 32 (replicate 9 0))
     ∷ badRows (replicate 9 0 ∷ opened (bought 1) ∷ [])

@@ -19,10 +19,11 @@ use Rattle.definitions.specs.State.{rowWords}
 abbrev pub soundTerms : Terms → Bool
 soundTerms t = (eqb (t .lot) 1 || eqb (t .lot) 50 || eqb (t .lot) 100) && leb (t .free) 1 && leb (t .«first_day») 1
 
--- "prices are absent or on the ladder (IPO: 0 to 10,000,000)"; paper 02, 2: "soundness now take[s] any prior close up to 10,000,000"
+-- "prices are absent or on the ladder"
 abbrev pub priceOrAbsent : ℕ → Bool
 priceOrAbsent p = eqb p 0 || legal p
 
+-- "(IPO: 0 to 10,000,000)"; paper 02, 2: "Refusal 6 and soundness now take any prior close up to 10,000,000"
 abbrev pub soundPrior : PriorPrices → Bool
 soundPrior p = leb (p .close) lastPrice && leb (p .ipo) lastPrice
 

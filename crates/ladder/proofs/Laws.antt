@@ -97,6 +97,9 @@ step-last : stepPrice positions ≡ lastPrice
 unfolding stepPrice bandOfPosition lastBand
 step-last = refl
 
+pub last-price : priceAt positions ≡ lastPrice
+last-price = price-at positions (lit≤ tt) (lit≤ tt) ∙ step-last
+
 step-band : (k : ℕ) → 1 ≤ k → bandOfPrice (stepPrice k) ≡ bandOfPosition k
 unfolding stepPrice bandOfPrice bandOfPosition
 step-band k one = chain.band-of-price k chained one

@@ -13,8 +13,8 @@ use Rattle.ladder.specs.declared.NearestPositions.{NearestPositions}
 use Rattle.ladder.specs.declared.Nearest.the-variants.{Positions, None}
 use Rattle.ladder.specs.declared.Position.the-variants.{At}
 use Rattle.ladder.specs.Bands.{firstPrice, lastPrice, positions}
-use Rattle.ladder.specs.Ladder.{bandOfPosition, bandOfPrice, isPrice, lastBand, legal, nearestIn, nearestTo, onStep, positionIn, positionOf, priceAt}
-use Rattle.ladder.proofs.Laws.{Lower, lower, legal-price, legal-true, legal-has, legal-within, legal-position, price-grows, price-order}
+use Rattle.ladder.specs.Ladder.{bandOfPrice, isPrice, legal, nearestIn, nearestTo, onStep, positionIn, positionOf, priceAt}
+use Rattle.ladder.proofs.Laws.{Lower, lower, last-price, legal-price, legal-true, legal-has, legal-within, legal-position, price-grows, price-order}
 
 pub record OnLadder (k : ℕ) : Type 0 where
   pub from-first : 1 ≤ k
@@ -35,10 +35,6 @@ pub record Between (p : ℕ) (n : NearestPositions) : Type 0 where
   pub neighbours : n .upper ≡ n .lower + 1
   pub above : priceAt (n .lower) < p
   pub below : p < priceAt (n .upper)
-
-last-has-last-price : priceAt positions ≡ lastPrice
-unfolding priceAt bandOfPosition lastBand
-last-has-last-price = refl
 
 module _ (p : ℕ) (first : firstPrice ≤ p) (last : p ≤ lastPrice) where
   abbrev here : ℕ
@@ -66,7 +62,7 @@ module _ (p : ℕ) (first : firstPrice ≤ p) (last : p ≤ lastPrice) where
   before-last : onStep (bandOfPrice p) p ≡ false → here < positions
   before-last off =
       let never : ¬ (here ≡ positions) = λ same.
-      omega (arith, off-step off, ap priceAt same, last-has-last-price, last) in
+      omega (arith, off-step off, ap priceAt same, last-price, last) in
       omega (arith, there .to-last)
 
   below : (k : ℕ) → k ≤ positions → priceAt k ≤ p → k ≤ here
@@ -141,9 +137,9 @@ pub none-below : (p : ℕ) → p < firstPrice → nearestTo p ≡ None
 unfolding nearestTo
 none-below p h = rw (lt-leb firstPrice p h)
 
-pub none-above : (p : ℕ) → firstPrice ≤ p → lastPrice < p → nearestTo p ≡ None
+pub none-above : (p : ℕ) → lastPrice < p → nearestTo p ≡ None
 unfolding nearestTo
-none-above p low h = rw (le-leb firstPrice p low, lt-leb p lastPrice h)
+none-above p h = rw (le-leb firstPrice p (omega arith), lt-leb p lastPrice h)
 
 pub nearest-at : (p : ℕ) (n : NearestPositions) → nearestTo p ≡ Positions n → NearestAt p n
 nearest-at p n e =
@@ -187,6 +183,42 @@ equal-where-legal p n e = (λ same. go same (legal p) refl, both-equal p n e)
     go : n .lower ≡ n .upper → (t : Bool) → legal p ≡ t → legal p ≡ true
     go same true t = t
     go same false t = absurd (omega (arith, between p n e t .neighbours, same))
+
+-- and the other way round: between the prices of two neighbours these are the answer
+pub lies-between : (p j : ℕ) → 1 ≤ j → j < positions → priceAt j < p → p < priceAt (j + 1)
+    → nearestTo p ≡ Positions (record { lower = j; upper = j + 1; legal = false })
+lies-between p j one before above below = e ∙ ap Positions (λ i. record { lower = lower-is i; upper = upper-is i; legal = legal-is i })
+  where
+    to-last : p ≤ lastPrice
+    to-last = omega (arith, legal-true (priceAt (j + 1)) (legal-price (j + 1) (omega arith) (omega arith)) .below)
+
+    n : NearestPositions
+    n = nearestIn (bandOfPrice p) p
+
+    e : nearestTo p ≡ Positions n
+    e = answered p (omega arith) to-last
+
+    h : NearestAt p n
+    h = nearest-at p n e
+
+    lower-is : n .lower ≡ j
+    lower-is =
+        let up = h .none-nearer-below j (omega arith) (omega arith) in
+        let down = price-order (n .lower) (j + 1) (h .lower-there .to-last) (omega (arith, h .at-or-below)) in
+        omega arith
+
+    upper-is : n .upper ≡ j + 1
+    upper-is =
+        let down = h .none-nearer-above (j + 1) (omega arith) (omega arith) in
+        let up = price-order j (n .upper) (omega arith) (omega (arith, h .at-or-above)) in
+        omega arith
+
+    legal-is : n .legal ≡ false
+    legal-is = go (legal p) refl
+      where
+        go : (t : Bool) → legal p ≡ t → n .legal ≡ false
+        go true t = absurd (omega (arith, both-equal p n e t, lower-is, upper-is))
+        go false t = h .legal ∙ t
 
 -- the answer by the band of the price and what is left over its steps, as the code finds it
 pub on-step-nearest : (p : ℕ) {b : Band} → b ≡ bandOfPrice p → firstPrice ≤ p → p ≤ lastPrice → (p - b .from) % b .step ≡ 0

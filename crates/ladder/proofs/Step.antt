@@ -30,20 +30,20 @@ module _ (b : Band) (steps : 0 < b .step) where
   pub price-on-step : (k : ℕ) → onStep b (priceIn b k) ≡ true
   price-on-step k = eq-eqb _ 0 (ap (λ (n : ℕ). n % b .step) (above-first k) ∙ mul-mod-right (b .step) (k - b .first))
 
-  pub price-position : (p : ℕ) → b .from ≤ p → onStep b p ≡ true → priceIn b (positionIn b p) ≡ p
-  price-position p from on =
-      let above : positionIn b p - b .first ≡ (p - b .from) / b .step = omega arith in
-      let whole : b .step * ((p - b .from) / b .step) + (p - b .from) % b .step ≡ p - b .from = div-add-mod (p - b .from) (b .step) in
-      let none : (p - b .from) % b .step ≡ 0 = eqb-true _ 0 on in
-      let same : b .step * (positionIn b p - b .first) ≡ b .step * ((p - b .from) / b .step) = ap (λ (n : ℕ). b .step * n) above in
-      omega arith
-
-  -- a price between two steps stands at or above the one's price and below the other's
-  pub price-at-or-below : (p : ℕ) → b .from ≤ p → priceIn b (positionIn b p) ≤ p
-  price-at-or-below p from =
+  -- a price is that of its position and what is left over the steps
+  price-and-rest : (p : ℕ) → b .from ≤ p → priceIn b (positionIn b p) + (p - b .from) % b .step ≡ p
+  price-and-rest p from =
       let above : positionIn b p - b .first ≡ (p - b .from) / b .step = omega arith in
       let same : b .step * (positionIn b p - b .first) ≡ b .step * ((p - b .from) / b .step) = ap (λ (n : ℕ). b .step * n) above in
       omega (arith, div-add-mod (p - b .from) (b .step))
+
+  pub price-position : (p : ℕ) → b .from ≤ p → onStep b p ≡ true → priceIn b (positionIn b p) ≡ p
+  price-position p from on =
+      omega (arith, price-and-rest p from, eqb-true ((p - b .from) % b .step) 0 on)
+
+  -- a price between two steps stands at or above the one's price and below the other's
+  pub price-at-or-below : (p : ℕ) → b .from ≤ p → priceIn b (positionIn b p) ≤ p
+  price-at-or-below p from = omega (arith, price-and-rest p from)
 
   pub below-next : (p : ℕ) → b .from ≤ p → p < priceIn b (positionIn b p + 1)
   below-next p from =

@@ -49,8 +49,8 @@ abbrev pub positionNumber : Position → ℕ
 positionNumber (At k) = k
 positionNumber Off = 0
 
--- Paper 02, 2: "the nearest position at or below, the nearest at or above, and whether the price is legal". The price is the band's, and from a whole number of
--- its steps the position at or below is the one at or above too; from any other, that is one further.
+-- Paper 02, 2: "the nearest position at or below, the nearest at or above, and whether the price is legal". On a step of its band both are the price's
+-- position; off it the upper one is the next.
 abbrev pub nearestIn : Band → ℕ → NearestPositions
 nearestIn b p =
     record { lower = positionIn b p; upper = cond (onStep b p) (positionIn b p) (positionIn b p + 1); legal = onStep b p }

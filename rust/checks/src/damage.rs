@@ -126,7 +126,7 @@ fn rows_of_each_type(program: &mut Program) {
     }
 }
 
-/// "Soundness now takes any prior close up to 10,000,000" (paper 02, request 2):
+/// "Refusal 6 and soundness now take any prior close up to 10,000,000" (paper 02):
 /// closes between two steps, with orders at the edges that they draw, and closes
 /// beyond, for which every event that reads the security gets 8.
 fn prior_closes(program: &mut Program) {

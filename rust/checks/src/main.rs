@@ -62,6 +62,11 @@ const FIXED: [Group; 13] = [
             "paper.txt",
             include_str!("../../../samples/paper.txt"),
         );
+        script::run(
+            program,
+            "adjusted-close.txt",
+            include_str!("../../../samples/adjusted-close.txt"),
+        );
     }),
     ("make", make::run),
     ("counters", counters::run),

@@ -24,13 +24,13 @@ const TEN_UP: usize = 13;
 const ELEVEN_UP: usize = 14;
 const TEN_DOWN: usize = 15;
 const ELEVEN_DOWN: usize = 16;
-pub const KINDS: usize = 17;
+pub const PLACES: usize = 17;
 
 #[cfg(test)]
 pub const EDGES: [usize; 4] = [TEN_UP, ELEVEN_UP, TEN_DOWN, ELEVEN_DOWN];
 
 /// The answers that each of them can get, by the papers.
-pub const POSSIBLE: [&[u32]; KINDS] = [
+pub const POSSIBLE: [&[u32]; PLACES] = [
     &[1, 3],
     &[0, 1, 2, 5, 7],
     &[0, 1, 2, 5, 8],
@@ -115,8 +115,8 @@ fn from_adjusted_close(words: &[u32], order: &Order) -> Option<usize> {
     }
 }
 
-pub fn kind_words(kind: usize) -> String {
-    match kind {
+pub fn place_words(place: usize) -> String {
+    match place {
         0 => "unknown kinds".into(),
         EMPTY => "no bytes".into(),
         MP_ORDER => "MP orders".into(),
@@ -126,7 +126,7 @@ pub fn kind_words(kind: usize) -> String {
         ELEVEN_UP => "orders eleven positions up from an adjusted close".into(),
         TEN_DOWN => "orders ten positions down from an adjusted close".into(),
         ELEVEN_DOWN => "orders eleven positions down from an adjusted close".into(),
-        _ => format!("kind {kind}"),
+        _ => format!("kind {place}"),
     }
 }
 

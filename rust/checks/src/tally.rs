@@ -2,20 +2,20 @@
 
 use guvontsira::Answer;
 
-use crate::places::{KINDS, POSSIBLE, kind_words};
+use crate::places::{PLACES, POSSIBLE, place_words};
 
 /// From a fresh state these never come.
 const NEVER_FROM_FRESH: [u32; 2] = [1, 8];
 
 #[derive(Clone, Debug)]
 pub struct Tally {
-    counts: [[u64; 256]; KINDS],
+    counts: [[u64; 256]; PLACES],
 }
 
 impl Tally {
     pub fn new() -> Self {
         Tally {
-            counts: [[0; 256]; KINDS],
+            counts: [[0; 256]; PLACES],
         }
     }
 
@@ -32,15 +32,15 @@ impl Tally {
     /// What should have come and did not, and what came and should not have.
     pub fn gaps(&self) -> Vec<String> {
         let mut gaps = Vec::new();
-        for (kind, possible) in POSSIBLE.iter().enumerate() {
+        for (place, possible) in POSSIBLE.iter().enumerate() {
             for answer in 0..256 {
                 let is_possible = possible.contains(&answer);
-                let count = self.counts[kind][answer as usize];
+                let count = self.counts[place][answer as usize];
                 if is_possible != (count > 0) {
                     gaps.push(format!(
                         "{} came {count} times from {}",
                         words(answer),
-                        kind_words(kind)
+                        place_words(place)
                     ));
                 }
             }
@@ -51,14 +51,14 @@ impl Tally {
     /// The same for histories from fresh states.
     pub fn gaps_from_fresh(&self) -> Vec<String> {
         let mut gaps = Vec::new();
-        for (kind, possible) in POSSIBLE.iter().enumerate() {
+        for (place, possible) in POSSIBLE.iter().enumerate() {
             for &answer in *possible {
-                let count = self.counts[kind][answer as usize];
+                let count = self.counts[place][answer as usize];
                 if NEVER_FROM_FRESH.contains(&answer) == (count > 0) {
                     gaps.push(format!(
                         "{} came {count} times from {} in histories",
                         words(answer),
-                        kind_words(kind)
+                        place_words(place)
                     ));
                 }
             }

@@ -250,8 +250,8 @@ fn ladder_and_orders() {
     for close in [
         "65.60", "24.50", "4.99", "2.01", "399.99", "0.50", "99979.99",
     ] {
-        let band = ladder_line(close, "10 positions");
-        let (from, to) = (&band[0], &band[1]);
+        let range = ladder_line(close, "10 positions");
+        let (from, to) = (&range[0], &range[1]);
         for within in [from, to] {
             assert_eq!(answer(close, within), "accept\n", "{close}: {within}");
         }

@@ -13,7 +13,7 @@ returns : tie.Need-returns
 returns c = sym (none-below _ (c .if1 .taken))
 
 returns-2 : tie.Need-returns-2
-returns-2 c = sym (none-above _ (c .before .if1 .left) (c .if2 .taken))
+returns-2 c = sym (none-above _ (c .if2 .taken))
 
 -- at a number that the first two tests let pass
 within : (c : tie.Else2) → Lower (c .before .before .args .price) (positionIn (bandOfPrice (c .before .before .args .price)) (c .before .before .args .price))
