@@ -13,7 +13,7 @@ use Rattle.ladder.specs.declared.NearestPositions.{NearestPositions}
 use Rattle.ladder.specs.declared.Nearest.the-variants.{Positions, None}
 use Rattle.ladder.specs.declared.Position.the-variants.{At}
 use Rattle.ladder.specs.Bands.{firstPrice, lastPrice, positions}
-use Rattle.ladder.specs.Ladder.{bandOfPrice, isPrice, legal, nearestIn, nearestTo, onStep, positionIn, positionOf, priceAt}
+use Rattle.ladder.specs.Ladder.{bandOfPrice, isPrice, legal, lowerNumber, nearestIn, nearestTo, onStep, positionIn, positionOf, priceAt, upperNumber}
 use Rattle.ladder.proofs.Laws.{Lower, lower, last-price, legal-price, legal-true, legal-has, legal-within, legal-position, price-grows, price-order}
 
 pub record OnLadder (k : ℕ) : Type 0 where
@@ -219,6 +219,18 @@ lies-between p j one before above below = e ∙ ap Positions (λ i. record { low
         go : (t : Bool) → legal p ≡ t → n .legal ≡ false
         go true t = absurd (omega (arith, both-equal p n e t, lower-is, upper-is))
         go false t = h .legal ∙ t
+
+-- the numbers that a caller is given are the nearest positions, and 0 where there is none
+pub numbers-nearest : (p : ℕ) → firstPrice ≤ p → p ≤ lastPrice
+    → NearestAt p (record { lower = lowerNumber (nearestTo p); upper = upperNumber (nearestTo p); legal = legal p })
+numbers-nearest p first last =
+    let n = nearestIn (bandOfPrice p) p in
+    let e : nearestTo p ≡ Positions n = answered p first last in
+    let h = nearest-at p n e in
+    rw e (subst (λ (t : Bool). NearestAt p (record { lower = n .lower; upper = n .upper; legal = t })) (h .legal) h)
+
+pub numbers-none : (p : ℕ) → nearestTo p ≡ None → (lowerNumber (nearestTo p) ≡ 0) × (upperNumber (nearestTo p) ≡ 0)
+numbers-none p e = (rw e, rw e)
 
 -- the answer by the band of the price and what is left over its steps, as the code finds it
 pub on-step-nearest : (p : ℕ) {b : Band} → b ≡ bandOfPrice p → firstPrice ≤ p → p ≤ lastPrice → (p - b .from) % b .step ≡ 0
