@@ -1,4 +1,4 @@
-//! The library's nine functions over slices, with its bare numbers. All unsafe
+//! The library's eleven functions over slices, with its bare numbers. All unsafe
 //! code of the crate is here.
 //!
 //! Every function is total: any words and any bytes may be handed in, and a
@@ -37,6 +37,10 @@ unsafe extern "C" {
         answers: *mut u32,
         answers_length: usize,
     ) -> usize;
+
+    fn guvontsira_floor(words: *const u32, word_count: usize, security: u32) -> u32;
+
+    fn guvontsira_ceiling(words: *const u32, word_count: usize, security: u32) -> u32;
 
     safe fn guvontsira_position(price: u32) -> u32;
 
@@ -98,6 +102,21 @@ pub fn run_list(words: &mut [u32], events: &[u8], lengths: &[usize], answers: &m
             answers.len(),
         )
     }
+}
+
+/// The day's floor in satang of a security on the main board; 0 where it has no
+/// range: it is free or has no prior close, or the gate would refuse an order
+/// for it with 1, 4 or 8.
+pub fn floor(words: &[u32], security: u32) -> u32 {
+    // SAFETY: pointer and length are those of one borrowed slice.
+    unsafe { guvontsira_floor(words.as_ptr(), words.len(), security) }
+}
+
+/// The day's ceiling in satang of a security on the main board; 0 where it has
+/// no range, as with [`floor`].
+pub fn ceiling(words: &[u32], security: u32) -> u32 {
+    // SAFETY: pointer and length are those of one borrowed slice.
+    unsafe { guvontsira_ceiling(words.as_ptr(), words.len(), security) }
 }
 
 /// The ladder position of a price in satang; 0 if it is off the ladder.
