@@ -20,13 +20,12 @@ use Rattle.definitions.specs.declared.Order.{Order}
 use Rattle.definitions.specs.declared.Setup.{Setup}
 use Rattle.definitions.specs.declared.Event.the-variants as event
 use Rattle.definitions.specs.declared.Answer.the-variants as answer
-use Rattle.definitions.specs.Codes.{inAuction, isLimit, mainBoard, online, dma}
 use Rattle.definitions.specs.Lists.{firstMet}
 use Rattle.definitions.specs.State.{headerOf, securityAt}
 use Rattle.definitions.specs.Sound.{priceOrAbsent, soundTerms, soundPrices}
 use Rattle.definitions.specs.Events.{eventIn, bytesConditions}
 use Rattle.definitions.specs.Refusals.{badName}
-use Rattle.definitions.specs.Rules.{orElse, reference10, tenApart, warn10}
+use Rattle.definitions.specs.Rules.{orElse, reference10, tenApart, coveredBy10, warn10}
 use Rattle.definitions.specs.Gate.{answerOf, perform, marketViewAt, refusedOr, eventAnswer}
 use Rattle.definitions.proofs.Tests.{either, or-cases, joined-parts}
 use Rattle.definitions.proofs.Passed.{table, outcome-read}
@@ -36,11 +35,6 @@ use Rattle.definitions.proofs.WellFormed.{Good, fits, records-sound}
 -- paper 01: "more than 10 ladder positions from the projected price, else last sale, else prior close; none, no check"
 abbrev pub apartOnLadder : ℕ → ℕ → Bool
 apartOnLadder j k = ltb (j + 10) k || ltb (k + 10) j
-
--- "limits, main board, sessions 1 and 4, online and DMA"
-abbrev pub coveredBy10 : ℕ → Order → Bool
-coveredBy10 session o =
-    isLimit (o .«order_type») && eqb (o .board) mainBoard && inAuction session && (eqb (o .channel) online || eqb (o .channel) dma)
 
 abbrev pub warn10OnLadder : MarketView → Order → Bool
 warn10OnLadder m o =
@@ -102,7 +96,7 @@ module _ {customers securities : ℕ} (w : List ℕ) (good : Good customers secu
   legal-close s below close o =
       on-the-ladder (marketViewAt w s) o (reference-on-ladder (securityAt w s) (security-true (securityAt w s) (good .securities-sound s below) .main) close)
 
-  module _ (x : Setup) (below : x .security < securities) (listed : soundTerms (x .terms) ≡ true) (ipo : x .prior .ipo ≤ lastPrice)
+  module _ (x : Setup) (below : x .security < securities) (listed : soundTerms (x .terms) ≡ true)
       (b : List ℕ) (read : firstMet (bytesConditions b) ≡ 0) (e : eventIn b ≡ event.Setup x) where
     named : badName (headerOf w) (event.Setup x) ≡ false
     named = lt-leb (headerOf w .securities) (x .security) (rw (good .sized .counted) below)
@@ -111,9 +105,9 @@ module _ {customers securities : ℕ} (w : List ℕ) (good : Good customers secu
     answer-is n first = ap answerOf (outcome-read w b (fits w good)) ∙ rw (read, e, first)
 
     -- "Refusal 6 .. now take[s] any prior close up to 10,000,000"
-    pub close-taken : x .prior .close ≤ lastPrice → eventAnswer w b ≡ answer.Ok
+    pub close-taken : x .prior .ipo ≤ lastPrice → x .prior .close ≤ lastPrice → eventAnswer w b ≡ answer.Ok
     unfolding firstMet perform
-    close-taken last =
+    close-taken ipo last =
         answer-is 0 (rw (named, listed, le-leb (x .prior .close) lastPrice last, le-leb (x .prior .ipo) lastPrice ipo, records-sound w good (event.Setup x) named))
 
     pub close-refused : lastPrice < x .prior .close → eventAnswer w b ≡ answer.Refused 6

@@ -207,14 +207,14 @@ module _ (customers securities : ℕ) (fit : sizesFit customers securities ≡ t
   w-without-mp-rows = restRows.w-without-mp-rows
 
   -- Paper 02, 2. What the ladder answers between two steps has its laws in crates/ladder/proofs/NearestLaws.antt.
-  -- "Refusal 6 .. now take[s] any prior close up to 10,000,000": a setup, read whole, of a security below S, with listed codes and an IPO price up
-  -- to 10,000,000, is answered ok with a prior close up to that, on the ladder or not, and refused with 6 with any other
-  pub close-taken : (history : List (List ℕ)) (x : Setup) → x .security < securities → soundTerms (x .terms) ≡ true → x .prior .ipo ≤ lastPrice
+  -- "Refusal 6 .. now take[s] any prior close up to 10,000,000": a setup, read whole, of a security below S with listed codes is answered ok
+  -- with an IPO price and a prior close up to 10,000,000, on the ladder or not, and refused with 6 with any other prior close
+  pub close-taken : (history : List (List ℕ)) (x : Setup) → x .security < securities → soundTerms (x .terms) ≡ true
       → (b : List ℕ) → firstMet (bytesConditions b) ≡ 0 → eventIn b ≡ event.Setup x
-      → x .prior .close ≤ lastPrice → eventAnswer (after history) b ≡ answer.Ok
+      → x .prior .ipo ≤ lastPrice → x .prior .close ≤ lastPrice → eventAnswer (after history) b ≡ answer.Ok
   close-taken history = adjustedClose.close-taken (after history) (well-formed history)
 
-  pub close-refused : (history : List (List ℕ)) (x : Setup) → x .security < securities → soundTerms (x .terms) ≡ true → x .prior .ipo ≤ lastPrice
+  pub close-refused : (history : List (List ℕ)) (x : Setup) → x .security < securities → soundTerms (x .terms) ≡ true
       → (b : List ℕ) → firstMet (bytesConditions b) ≡ 0 → eventIn b ≡ event.Setup x
       → lastPrice < x .prior .close → eventAnswer (after history) b ≡ answer.Refused 6
   close-refused history = adjustedClose.close-refused (after history) (well-formed history)

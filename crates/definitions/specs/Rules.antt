@@ -158,12 +158,16 @@ tenApart (nearest.Positions n) k = ltb (n .lower + 10) k || ltb (k + 10) (n .upp
 tenApart nearest.None k = false
 
 -- "limits, main board, sessions 1 and 4, online and DMA"
-unfoldable pub warn10 : MarketView → Order → Bool
-warn10 m o =
+abbrev pub coveredBy10 : ℕ → Order → Bool
+coveredBy10 session o =
     isLimit (o .«order_type»)
     && eqb (o .board) mainBoard
-    && inAuction (m .session)
+    && inAuction session
     && (eqb (o .channel) online || eqb (o .channel) dma)
+
+unfoldable pub warn10 : MarketView → Order → Bool
+warn10 m o =
+    coveredBy10 (m .session) o
     && tenApart (nearestTo (reference10 (m .security))) (positionNumber (positionOf (o .price)))
 
 -- "first that applies .. Else accept."

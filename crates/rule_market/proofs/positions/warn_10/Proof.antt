@@ -2,8 +2,7 @@
 -- Assumes nothing.
 use mathlib.Core.Bool.{true}
 use mathlib.Core.Path.{_≡_}
-use Rattle.definitions.specs.Rules.{warn10}
-use Rattle.rule_market.specs.Covered.{coveredBy10}
+use Rattle.definitions.specs.Rules.{coveredBy10, warn10}
 use Rattle.definitions.proofs.Tests.{refused, passed}
 use Rattle.rule_market.proofs.positions.warn_10.Statement.{statement}
 use Rattle.rule_market.proofs.positions.warn_10.Tie as tie
