@@ -3,3 +3,4 @@ pub mod Step
 pub mod Chain
 pub mod Laws
 pub mod NearestLaws
+pub mod LegalLaws

@@ -2,7 +2,7 @@
 use mathlib.Core.Bool.{Bool, cond, _&&_}
 use mathlib.Core.List.{List, [], _∷_}
 use mathlib.Core.Path.{_≡_}
-use Prim.Native.Nat.{ℕ, _+_, _-_, _*_, _/_, _%_, _≤_}
+use Prim.Native.Nat.{ℕ, zero, suc, _+_, _-_, _*_, _/_, _%_, _≤_}
 use lib.Dec.{leb, eqb}
 use lib.ListN.{getD}
 use Rattle.ladder.specs.declared.Band.{Band}
@@ -71,6 +71,20 @@ upperNumber None = 0
 -- 0, the absent price, for a number that is no position
 unfoldable pub priceAt : ℕ → ℕ
 priceAt k = cond (leb 1 k && leb k positions) (priceIn (bandOfPosition k) k) 0
+
+-- Paper 02, 3: "down to a legal price", the greatest that is not above p; 0 where there is none
+unfoldable pub legalDown : ℕ → ℕ
+legalDown zero = 0
+legalDown (suc p) = cond (legal (suc p)) (suc p) (legalDown p)
+
+-- the least legal price of the last n; 0 where there is none
+unfoldable pub leastOfLast : ℕ → ℕ
+leastOfLast zero = 0
+leastOfLast (suc n) = cond (legal (lastPrice - n)) (lastPrice - n) (leastOfLast n)
+
+-- "up to one", the least that is not below p
+abbrev pub legalUp : ℕ → ℕ
+legalUp p = leastOfLast (lastPrice + 1 - p)
 
 -- "The gate keeps the 1,300 legal prices up to 400.00 as a constant table, and this rule is shown once over all of it."
 pub record StepRule (table : List ℕ) : Type 0 where

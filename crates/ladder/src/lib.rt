@@ -1,7 +1,8 @@
 // Paper 01, "Prices and the ladder": which prices are legal, and at which position each stands.
 ghost use mathlib.Core.Path.{_≡_};
 ghost use Prim.Native.Nat.{_≤_};
-ghost use Rattle.ladder.specs.Ladder.{StepRule, bandOfPrice, legal, lowerNumber, nearestTo, onStep, positionNumber, positionOf, priceAt, upperNumber};
+ghost use Rattle.ladder.specs.Bands.{firstPrice, lastPrice};
+ghost use Rattle.ladder.specs.Ladder.{StepRule, bandOfPrice, legal, legalDown, legalUp, lowerNumber, nearestTo, onStep, positionNumber, positionOf, priceAt, upperNumber};
 
 mod legal_prices;
 
@@ -130,6 +131,22 @@ impl Ladder {
         ensures { λ r. ⌜ r ≡ priceAt position ⌝ }
     {
         Ladder::prices(position, position).low
+    }
+
+    // Paper 02, 3: "down to a legal price".
+    pub fn legal_down(price: u32) -> u32
+        requires { ⌜ price ≤ lastPrice ⌝ }
+        ensures { λ r. ⌜ r ≡ legalDown price ⌝ }
+    {
+        Ladder::price(Ladder::lower_number(Ladder::nearest(price)))
+    }
+
+    // "up to one"
+    pub fn legal_up(price: u32) -> u32
+        requires { ⌜ (firstPrice ≤ price) × (price ≤ lastPrice) ⌝ }
+        ensures { λ r. ⌜ r ≡ legalUp price ⌝ }
+    {
+        Ladder::price(Ladder::upper_number(Ladder::nearest(price)))
     }
 
     // The one function that reads the table, for both prices at once: a call builds the whole array on its stack (docs/DECISIONS.md).
