@@ -4,7 +4,7 @@ use mathlib.Core.Path.{_≡_, refl}
 use Prim.Native.Nat.{ℕ}
 use Rattle.definitions.specs.declared.Answer.{Answer}
 use Rattle.definitions.specs.declared.Answer.the-variants as answer
-use Rattle.definitions.specs.declared.Verdict.the-variants.{RejectS, RejectV, RejectQ, RejectW, RejectP, Warn30, Warn10, Accept}
+use Rattle.definitions.specs.declared.Verdict.the-variants.{RejectS, RejectV, RejectC, RejectQ, RejectW, RejectP, Warn30, Warn10, Accept}
 use Rattle.definitions.specs.Answers.{answerNumber, ascii, decimalIn, answerText}
 
 abbrev pub answers : List (Answer × (ℕ × List ℕ))
@@ -15,6 +15,8 @@ answers =
     ∷ (answer.Verdict RejectS, (219, 114 ∷ 101 ∷ 106 ∷ 101 ∷ 99 ∷ 116 ∷ 32 ∷ 83 ∷ []))
     -- `reject V`
     ∷ (answer.Verdict RejectV, (222, 114 ∷ 101 ∷ 106 ∷ 101 ∷ 99 ∷ 116 ∷ 32 ∷ 86 ∷ []))
+    -- `reject C`
+    ∷ (answer.Verdict RejectC, (203, 114 ∷ 101 ∷ 106 ∷ 101 ∷ 99 ∷ 116 ∷ 32 ∷ 67 ∷ []))
     -- `reject Q`
     ∷ (answer.Verdict RejectQ, (217, 114 ∷ 101 ∷ 106 ∷ 101 ∷ 99 ∷ 116 ∷ 32 ∷ 81 ∷ []))
     -- `reject W`
@@ -35,6 +37,8 @@ answers =
     ∷ (answer.Refused 10, (10, 114 ∷ 101 ∷ 102 ∷ 117 ∷ 115 ∷ 101 ∷ 100 ∷ 32 ∷ 49 ∷ 48 ∷ []))
     -- `refused 12`
     ∷ (answer.Refused 12, (12, 114 ∷ 101 ∷ 102 ∷ 117 ∷ 115 ∷ 101 ∷ 100 ∷ 32 ∷ 49 ∷ 50 ∷ []))
+    -- `refused 13`
+    ∷ (answer.Refused 13, (13, 114 ∷ 101 ∷ 102 ∷ 117 ∷ 115 ∷ 101 ∷ 100 ∷ 32 ∷ 49 ∷ 51 ∷ []))
     -- `refused 4294967295`
     ∷ (answer.Refused 4_294_967_295, (4_294_967_295, 114 ∷ 101 ∷ 102 ∷ 117 ∷ 115 ∷ 101 ∷ 100 ∷ 32 ∷ 52 ∷ 50 ∷ 57 ∷ 52 ∷ 57 ∷ 54 ∷ 55 ∷ 50 ∷ 57 ∷ 53 ∷ []))
     ∷ []

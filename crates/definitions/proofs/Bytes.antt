@@ -33,3 +33,6 @@ match customer number volume = 7 ∷ (two customer ++ (four number ++ four volum
 
 abbrev pub rest : ℕ → ℕ → ℕ → List ℕ
 rest customer number price = 8 ∷ (two customer ++ (four number ++ four price))
+
+abbrev pub figures : ℕ → ℕ → ℕ → ℕ → ℕ → List ℕ
+figures security dividend subscription old new = 9 ∷ (two security ++ (four dividend ++ (four subscription ++ (two old ++ two new))))

@@ -13,6 +13,10 @@ use Rattle.definitions.proofs.Corner.{Corner, Entry, found, performed, 
 abbrev pub closedAt : ℕ → List ℕ → List ℕ
 closedAt close onMain = security (terms 100 0 0 close 0) onMain untraded
 
+-- a free one, which has no range (paper 02, 3)
+abbrev pub freeClosedAt : ℕ → List ℕ
+freeClosedAt close = security (terms 100 1 0 close 0) untraded untraded
+
 -- an order of a customer without rows, in a session
 abbrev pub meets : ℕ → List ℕ → Entry → Verdict → Corner
 meets now security e v = judged 5_000 now (security ∷ []) [] e v
@@ -67,8 +71,8 @@ abbrev pub ends : List Corner
 ends =
     -- 0.01, the first price: nothing is below; up from position 1
     meets 1 (closedAt 1 untraded) (limitAt buy online 1) Accept
-    ∷ meets 1 (closedAt 1 untraded) (limitAt buy online 11) Accept
-    ∷ meets 1 (closedAt 1 untraded) (limitAt buy online 12) Warn10
+    ∷ meets 1 (freeClosedAt 1) (limitAt buy online 11) Accept
+    ∷ meets 1 (freeClosedAt 1) (limitAt buy online 12) Warn10
     ∷ meets 1 (closedAt 11 untraded) (limitAt buy online 1) Accept
     ∷ meets 1 (closedAt 12 untraded) (limitAt buy online 1) Warn10
     -- 100,000.00, the last price: nothing is above; down from position 51,100

@@ -6,7 +6,7 @@ use lib.ListN.{length, replicate, set}
 use Rattle.definitions.specs.declared.Answer.{Answer}
 use Rattle.definitions.specs.declared.Answer.the-variants as answer
 use Rattle.definitions.specs.declared.Verdict.{Verdict}
-use Rattle.definitions.specs.declared.Verdict.the-variants.{RejectS, RejectV, RejectQ, RejectW, RejectP, Warn30, Warn10, Accept}
+use Rattle.definitions.specs.declared.Verdict.the-variants.{RejectS, RejectV, RejectC, RejectQ, RejectW, RejectP, Warn30, Warn10, Accept}
 use Rattle.definitions.proofs.Bytes as bytes
 use Rattle.definitions.proofs.Run.{resultOn, performedOn}
 
@@ -67,18 +67,21 @@ abbrev pub sessionAt : ℕ
 sessionAt = 3
 
 abbrev pub securityAt : ℕ → ℕ
-securityAt s = 4 + 13 * s
+securityAt s = 4 + 17 * s
 
 -- the desk of customer k where there are so many securities, its row i, and its counters
 abbrev pub deskAt : ℕ → ℕ → ℕ
-deskAt securities k = 4 + 13 * securities + 291 * k
+deskAt securities k = 4 + 17 * securities + 291 * k
 
 abbrev pub rowAt : ℕ → ℕ → ℕ → ℕ
 rowAt securities k i = deskAt securities k + 3 + 9 * i
 
--- a security: lot, free, first day, prior close and IPO price; projected, last sale, bid and offer of each board
+-- a security: lot, free, first day, prior close and IPO price; projected, last sale, bid and offer of each board; dividend, subscription, old and new shares
+abbrev pub withFigures : List ℕ → List ℕ → List ℕ → List ℕ → List ℕ
+withFigures figures terms main foreign = terms ++ (main ++ (foreign ++ figures))
+
 abbrev pub security : List ℕ → List ℕ → List ℕ → List ℕ
-security terms main foreign = terms ++ (main ++ foreign)
+security terms main foreign = withFigures (0 ∷ 0 ∷ 0 ∷ 0 ∷ []) terms main foreign
 
 abbrev pub terms : ℕ → ℕ → ℕ → ℕ → ℕ → List ℕ
 terms lot free first close ipo = lot ∷ free ∷ first ∷ close ∷ ipo ∷ []
@@ -174,6 +177,7 @@ takes counter place e = (counter .0, counter .1 ∷ []) ∷ (place, opened e) �
 abbrev pub follows : ℕ → ℕ → Entry → Verdict → Changes
 follows desk row e RejectS = rejects desk
 follows desk row e RejectV = rejects desk
+follows desk row e RejectC = rejects desk
 follows desk row e RejectQ = rejects desk
 follows desk row e RejectW = rejects desk
 follows desk row e RejectP = rejects desk

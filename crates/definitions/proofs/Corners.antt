@@ -67,7 +67,7 @@ corners =
     refused (state 0 2 (security plain untraded untraded ∷ []) []) (session 2) 1
     ∷ refused (state 0 2 [] (desk [] ∷ [])) (session 2) 1
     ∷ refused [] (session 2) 1
-    ∷ refused (take 307 bare) (session 2) 1
+    ∷ refused (take 311 bare) (session 2) 1
     ∷ refused (bare ++ (0 ∷ [])) (session 2) 1
     ∷ refused (written bare clockAt (86_400_000 ∷ [])) (session 2) 1
     ∷ done (written bare clockAt (86_399_999 ∷ [])) (session 2) []
@@ -84,7 +84,8 @@ corners =
     ∷ refused bare (6 ∷ []) 2
     ∷ refused bare (7 ∷ []) 2
     ∷ refused bare (0 ∷ []) 3
-    ∷ refused bare (9 ∷ 1 ∷ []) 3
+    ∷ refused bare (9 ∷ 1 ∷ []) 2
+    ∷ refused bare (10 ∷ 1 ∷ []) 3
     -- 4: customer or security at least C or S, also by the high byte; and before 5
     ∷ refused bare (buys 1 1) 4
     ∷ refused bare (buys 256 1) 4
@@ -192,10 +193,10 @@ making words customers securities = answerOf (made (replicate words 7) customers
 
 abbrev pub sizes : List (Answer × Answer)
 sizes =
-    (making 308 1 1, answer.Ok)
-    ∷ (making 307 1 1, answer.Refused 1)
-    ∷ (making 309 1 1, answer.Refused 1)
-    ∷ (making 17 0 1, answer.Refused 1)
+    (making 312 1 1, answer.Ok)
+    ∷ (making 311 1 1, answer.Refused 1)
+    ∷ (making 313 1 1, answer.Refused 1)
+    ∷ (making 21 0 1, answer.Refused 1)
     ∷ (making 295 1 0, answer.Refused 1)
     ∷ []
 
@@ -208,6 +209,6 @@ pub edges-right : (sizesFit 256 1_024 ≡ true) × (sizesFit 257 1 ≡ false) ×
 edges-right = (refl, refl, refl, refl, refl)
 
 -- "A fresh state has its C and S, every lot 100 and zeros elsewhere."
-pub fresh-right : made (replicate 625 7) 2 3 ≡ gate.done answer.Ok (2 ∷ 3 ∷ 0 ∷ 0 ∷ (joined (replicate 3 (100 ∷ replicate 12 0)) ++ replicate 582 0))
+pub fresh-right : made (replicate 637 7) 2 3 ≡ gate.done answer.Ok (2 ∷ 3 ∷ 0 ∷ 0 ∷ (joined (replicate 3 (100 ∷ replicate 16 0)) ++ replicate 582 0))
 unfolding made resultOn
 fresh-right = refl

@@ -86,6 +86,7 @@ counted-raises : (v : Verdict) (d : Desk) (c : Counter) → counterIn c (counted
 unfolding counted
 counted-raises verdict.RejectS d = by-counter _ refl refl refl
 counted-raises verdict.RejectV d = by-counter _ refl refl refl
+counted-raises verdict.RejectC d = by-counter _ refl refl refl
 counted-raises verdict.RejectQ d = by-counter _ refl refl refl
 counted-raises verdict.RejectW d = by-counter _ refl refl refl
 counted-raises verdict.RejectP d = by-counter _ refl refl refl
@@ -122,6 +123,7 @@ module _ (c : Counter) (l : Lone) where
   counts-performed (event.Cancel k x) = counter-changed c _ (l .desk)
   counts-performed (event.Match k x) = counter-changed c _ (l .desk)
   counts-performed (event.Rest k x) = counter-changed c _ (l .desk)
+  counts-performed (event.Figures x) = refl
 
   counts-outcome : (b : List ℕ) → Counts (loneOutcome l b)
   unfolding loneOutcome
@@ -149,6 +151,7 @@ module _ (c : Counter) (customers k : ℕ) (w : List ℕ) where
   own-counted (event.Cancel j x) fed = rw (own j fed)
   own-counted (event.Match j x) fed = rw (own j fed)
   own-counted (event.Rest j x) fed = rw (own j fed)
+  own-counted (event.Figures x) fed = refl
 
   fed-counted : (b : List ℕ) → isFed customers k b ≡ true → belongsTo customers k b && countsAnswer c (eventAnswer w b) ≡ countsAnswer c (eventAnswer w b)
   unfolding isFed belongsTo ownerOf outcome

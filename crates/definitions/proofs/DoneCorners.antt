@@ -1,5 +1,5 @@
 -- Paper 01, "Events": what each of its kinds does to the words, run on the definitions over two customers and three securities, and one theorem over the
--- whole. Kind 8 is in RestCorners.antt.
+-- whole. Kind 8 is in RestCorners.antt, kind 9 in RangeCorners.antt.
 use mathlib.Core.List.{List, [], _∷_, _++_, map}
 use mathlib.Core.Path.{_≡_, refl}
 use Prim.Native.Nat.{ℕ, _+_}
@@ -8,14 +8,14 @@ use Rattle.definitions.specs.declared.Verdict.the-variants.{RejectV, Rej
 use Rattle.definitions.proofs.Bytes.{clock, session, setup, prices, cancel, match}
 use Rattle.definitions.specs.Lone.{marketWords, customerWords}
 use Rattle.definitions.proofs.Run.{resultOn}
-use Rattle.definitions.proofs.Corner.{Corner, Changes, Entry, found, right, done, verdict, joined, state, clockAt, sessionAt, securityAt, deskAt, rowAt, security, terms, traded, counting, desk, main, foreign, buy, sell, limit, ato, atc, mp, online, entry, bytesOf, opened, cancelled}
+use Rattle.definitions.proofs.Corner.{Corner, Changes, Entry, found, right, done, verdict, joined, state, clockAt, sessionAt, securityAt, deskAt, rowAt, withFigures, security, terms, traded, counting, desk, main, foreign, buy, sell, limit, ato, atc, mp, online, entry, bytesOf, opened, cancelled}
 
 -- three securities, of which no two words are alike that might be taken for each other
 abbrev pub first : List ℕ
-first = security (terms 50 1 1 1000 2001) (traded 5000 5025 4975 5050) (traded 6000 6025 5975 6050)
+first = withFigures (12 ∷ 13 ∷ 14 ∷ 15 ∷ []) (terms 50 1 1 1000 2001) (traded 5000 5025 4975 5050) (traded 6000 6025 5975 6050)
 
 abbrev pub second : List ℕ
-second = security (terms 100 0 0 1100 2101) (traded 7000 7025 6975 7050) (traded 8000 8025 7975 8050)
+second = withFigures (16 ∷ 7777 ∷ 17 ∷ 18 ∷ []) (terms 100 0 0 7100 2101) (traded 7000 7025 6975 7050) (traded 8000 8025 7975 8050)
 
 abbrev pub third : List ℕ
 third = security (terms 1 0 1 1200 2201) (traded 9000 9025 8975 9050) (traded 9500 9525 9475 9550)
@@ -95,6 +95,10 @@ counters accepted warned rejected = state 0 2 (first ∷ []) (counting accepted 
 abbrev pub limits : ℕ → ℕ → Entry
 limits price volume = entry 1 0 main buy limit online price volume
 
+-- a setup's fields, and no figures any more
+abbrev pub setAnew : ℕ → List ℕ → Changes
+setAnew s fields = (securityAt s, fields) ∷ (securityAt s + 13, replicate 4 0) ∷ []
+
 abbrev pub corners : List Corner
 corners =
     -- "Only kind 1 moves the clock."
@@ -107,10 +111,11 @@ corners =
     ∷ done (words 2) (session 4) (changedSession 4)
     ∷ done (words 1) (session 1) []
     ∷ done (words 2) (session 2) []
-    -- "Kinds 3 and 4 replace the fields they name."
-    ∷ done (words 2) (setup 0 1 0 0 9_999_800 9_999_999) ((securityAt 0, terms 1 0 0 9_999_800 9_999_999) ∷ [])
-    ∷ done (words 2) (setup 1 50 1 0 0 10_000_000) ((securityAt 1, terms 50 1 0 0 10_000_000) ∷ [])
-    ∷ done (words 2) (setup 1 100 0 1 10_000_000 0) ((securityAt 1, terms 100 0 1 10_000_000 0) ∷ [])
+    -- "Kinds 3 and 4 replace the fields they name."; paper 02, 3, of the figures: "kind 3 clears it"
+    ∷ done (words 2) (setup 0 1 0 0 9_999_800 9_999_999) (setAnew 0 (terms 1 0 0 9_999_800 9_999_999))
+    ∷ done (words 2) (setup 1 50 1 0 0 10_000_000) (setAnew 1 (terms 50 1 0 0 10_000_000))
+    ∷ done (words 2) (setup 1 100 0 1 10_000_000 0) (setAnew 1 (terms 100 0 1 10_000_000 0))
+    ∷ done (words 2) (setup 2 100 0 0 0 0) (setAnew 2 (terms 100 0 0 0 0))
     ∷ done (words 2) (prices 0 main 10_000_000 9_999_800 9_999_600 9_999_400)
     ((securityAt 0 + 5, traded 10_000_000 9_999_800 9_999_600 9_999_400) ∷ [])
     ∷ done (words 2) (prices 0 foreign 5 6 7 8) ((securityAt 0 + 9, traded 5 6 7 8) ∷ [])

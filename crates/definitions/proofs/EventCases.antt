@@ -9,7 +9,7 @@ use Rattle.definitions.specs.declared.Event.the-variants as event
 use Rattle.definitions.specs.Events.{eventIn, Owner, market, customer, nobody, ownerOf}
 use Rattle.definitions.specs.Lone.{isFed}
 use Rattle.definitions.specs.Walk.{taken, split}
-use Rattle.definitions.proofs.Bytes.{clock, session, setup, prices, order, cancel, match, rest}
+use Rattle.definitions.proofs.Bytes.{clock, session, setup, prices, order, cancel, match, rest, figures}
 use Rattle.definitions.proofs.Run.{answersOf}
 use Rattle.definitions.proofs.Corner.{joined}
 
@@ -58,6 +58,7 @@ read =
     ∷ (6 ∷ ascending 6, event.Cancel 513 (record { number = 100_992_003 }))
     ∷ (7 ∷ ascending 10, event.Match 513 (record { number = 100_992_003; volume = 168_364_039 }))
     ∷ (8 ∷ ascending 10, event.Rest 513 (record { number = 100_992_003; price = 168_364_039 }))
+    ∷ (9 ∷ ascending 14, event.Figures (record { security = 513; figures = record { dividend = 100_992_003; subscription = 168_364_039; «old_shares» = 3_083; «new_shares» = 3_597 } }))
     ∷ []
 
 pub read-right : map (λ (c : List ℕ × Event). eventIn (c .0)) read ≡ map (λ (c : List ℕ × Event). c .1) read
@@ -83,6 +84,8 @@ belongs =
     ∷ (rest 1 1 5000, customer 1)
     ∷ (rest 2 1 5000, nobody)
     ∷ (rest 256 1 5000, nobody)
+    ∷ (figures 0 0 1000 2 3, market)
+    ∷ (figures 2 0 1000 2 3, market)
     -- turned back all the same, but not by condition 2, 3 or its customer
     ∷ (session 5, market)
     ∷ (setup 1_024 10 0 0 0 0, market)
@@ -98,6 +101,7 @@ belongs =
     ∷ (8 ∷ 0 ∷ 0 ∷ [], nobody)
     ∷ (take 10 (rest 0 1 5000), nobody)
     ∷ (9 ∷ 0 ∷ 0 ∷ [], nobody)
+    ∷ (10 ∷ 0 ∷ 0 ∷ [], nobody)
     ∷ []
 
 pub belongs-right : map (λ (c : List ℕ × Owner). ownerOf 2 (c .0)) belongs ≡ map (λ (c : List ℕ × Owner). c .1) belongs
@@ -121,9 +125,11 @@ fed =
     ∷ (rest 0 0 0, (true, false))
     ∷ (rest 1 1 5000, (false, true))
     ∷ (rest 2 1 5000, (false, false))
+    ∷ (figures 9 0 0 0 0, (true, true))
     ∷ ([], (false, false))
     ∷ (8 ∷ [], (false, false))
     ∷ (9 ∷ [], (false, false))
+    ∷ (10 ∷ [], (false, false))
     ∷ []
 
 pub fed-right : map (λ (c : List ℕ × (Bool × Bool)). (isFed 2 0 (c .0), isFed 2 1 (c .0))) fed ≡ map (λ (c : List ℕ × (Bool × Bool)). c .1) fed
@@ -141,17 +147,19 @@ kinds =
     ∷ cancel 7 1
     ∷ match 8 1 100
     ∷ rest 1 1 5000
+    ∷ figures 9 0 1000 2 3
     ∷ []
 
 -- bytes, at most so many events of them, and the events
 abbrev pub walked : List ((ℕ × List ℕ) × List (List ℕ))
 walked =
-    ((8, joined kinds), kinds)
+    ((9, joined kinds), kinds)
     ∷ ((100, joined kinds), kinds)
     ∷ ((2, joined kinds), clock 2 ∷ session 3 ∷ [])
     ∷ ((0, joined kinds), [])
     ∷ ((3, []), [])
     -- an unknown kind, or fewer bytes than the kind's length, takes what is left
+    ∷ ((9, session 2 ++ (10 ∷ session 1)), session 2 ∷ (10 ∷ session 1) ∷ [])
     ∷ ((9, session 2 ++ (9 ∷ session 1)), session 2 ∷ (9 ∷ session 1) ∷ [])
     ∷ ((9, session 2 ++ (8 ∷ session 1)), session 2 ∷ (8 ∷ session 1) ∷ [])
     ∷ ((9, session 2 ++ (0 ∷ session 1)), session 2 ∷ (0 ∷ session 1) ∷ [])

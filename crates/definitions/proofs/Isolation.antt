@@ -25,7 +25,7 @@ use Rattle.definitions.specs.Events.{eventIn, bytesConditions, Named, no
 use Rattle.definitions.specs.Desks.{sessionRow, cancelledRow, matchedRow, restRow, changed, ordered}
 use Rattle.definitions.specs.Rules.{View, verdictOf}
 use Rattle.definitions.specs.Refusals.{beyond, badName, earlyConditions, laterConditions, eventConditions}
-use Rattle.definitions.specs.Gate.{Outcome, refused, done, answerOf, wordsOf, numberOf, viewOf, recordsSound, conditions, afterSetup, afterPrices, afterSession, sessionMarket, changeSecurity, changeDesk, perform, refusedOr, outcome, eventWords, withoutProjected}
+use Rattle.definitions.specs.Gate.{Outcome, refused, done, answerOf, wordsOf, numberOf, viewOf, recordsSound, conditions, afterSetup, afterPrices, afterFigures, afterSession, sessionMarket, changeSecurity, changeDesk, perform, refusedOr, outcome, eventWords, withoutProjected}
 use Rattle.definitions.specs.Lone.{Lone, marketWords, loneView, loneConditions, loneDone, loneSession, lonePerform, loneRefusedOr, loneOutcome, fedTo, isFed}
 use Rattle.definitions.proofs.Tests.{or-parts}
 use Rattle.definitions.proofs.Table.{first-append, first-without}
@@ -89,7 +89,7 @@ module _ {customers securities : ℕ} (w : List ℕ) (good : Good customers secu
   abbrev metAlone : Event → View
   metAlone e = loneView (loneOf w k) (numberOf (securityNamed e))
 
-  -- the conditions after 8 see a desk only where the event is a customer's
+  -- the conditions after 8 see a desk only where the event is a customer's, and a security only where it is named
   tests-same : (e : Event) → Fed e → badName (headerOf w) e ≡ false → foundBy (headerOf w) [] (metAlone e) e ≡ foundBy (headerOf w) [] (viewOf w e) e
   tests-same (event.Clock t) fed n = refl
   tests-same (event.Session s) fed n = refl
@@ -103,6 +103,9 @@ module _ {customers securities : ℕ} (w : List ℕ) (good : Good customers secu
       ap (λ (v : View). foundBy (headerOf w) [] v (event.Match j x)) (view-same (event.Match j x) n (fed-customer customers j k fed))
   tests-same (event.Rest j x) fed n =
       ap (λ (v : View). foundBy (headerOf w) [] v (event.Rest j x)) (view-same (event.Rest j x) n (fed-customer customers j k fed))
+  tests-same (event.Figures x) fed n =
+      ap₂ (λ (h : Header) (s : Security). foundBy (headerOf w) [] (viewWith h s (deskAt w k)) (event.Figures x)) header-same
+      (security-same (x .security) (below-securities w good (x .security) n))
 
   -- "gets the number found first": the same in both, since condition 8 never arises
   same-refusal : (e : Event) → Fed e → foundBy (headerOf (marketWords w)) [] (metAlone e) e ≡ firstMet (table w e)
@@ -195,6 +198,8 @@ module _ {customers securities : ℕ} (w : List ℕ) (good : Good customers secu
       put-back-changed (matchedRow (x .number) (x .volume)) ∙ ap (λ (i : ℕ). shown (perform w (event.Match i x))) (sym (fed-customer customers j k fed))
   same-perform (event.Rest j x) fed p =
       put-back-changed (restRow (x .number) (x .price)) ∙ ap (λ (i : ℕ). shown (perform w (event.Rest i x))) (sym (fed-customer customers j k fed))
+  same-perform (event.Figures x) fed p =
+      put-security (x .security) (afterFigures x) (below-securities w good (x .security) (passed 4 w (event.Figures x) p))
 
   -- an event of the market or of k
   pub same-event : (b : List ℕ) → isFed customers k b ≡ true → loneOutcome (loneOf w k) b ≡ shown (outcome w b)
@@ -256,6 +261,7 @@ module _ {customers securities : ℕ} (w : List ℕ) (good : Good customers secu
   other-perform (event.Cancel j x) f p = other-changed j (passed 4 w (event.Cancel j x) p) f (cancelledRow (x .number) (headerOf w .clock))
   other-perform (event.Match j x) f p = other-changed j (passed 4 w (event.Match j x) p) f (matchedRow (x .number) (x .volume))
   other-perform (event.Rest j x) f p = other-changed j (passed 4 w (event.Rest j x) p) f (restRow (x .number) (x .price))
+  other-perform (event.Figures x) f p = absurd (true≢false f)
 
   -- an event of another customer, or of nobody
   pub other-event : (b : List ℕ) → isFed customers k b ≡ false → loneOf (eventWords w b) k ≡ loneOf w k

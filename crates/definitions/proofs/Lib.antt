@@ -36,6 +36,7 @@ pub mod Minute
 pub mod SessionRows
 pub mod RestRows
 pub mod AdjustedClose
+pub mod RangeLaws
 -- the three demands
 pub mod Demands
 -- the paper's cases

@@ -46,6 +46,7 @@ clock-moves w (event.Order k x) p = le-refl (headerOf w .clock)
 clock-moves w (event.Cancel k x) p = le-refl (headerOf w .clock)
 clock-moves w (event.Match k x) p = le-refl (headerOf w .clock)
 clock-moves w (event.Rest k x) p = le-refl (headerOf w .clock)
+clock-moves w (event.Figures x) p = le-refl (headerOf w .clock)
 
 module _ {customers securities : ℕ} where
   clock-event : (w : List ℕ) → Good customers securities w → (b : List ℕ) → headerOf w .clock ≤ headerOf (eventWords w b) .clock
@@ -85,6 +86,7 @@ module _ (l : Lone) (r : Row) (mark : r .mark ≡ cancelledMark) (type : r .«or
   left-performed (event.Cancel k x) = left-by (cancelledRow (x .number) (headerOf (l .market) .clock)) (rw mark)
   left-performed (event.Match k x) = left-by (matchedRow (x .number) (x .volume)) (rw mark)
   left-performed (event.Rest k x) = left-by (restRow (x .number) (x .price)) (rw mark)
+  left-performed (event.Figures x) = there
 
 module _ {customers securities : ℕ} (k : ℕ) (below : k < customers) (r : Row) (mark : r .mark ≡ cancelledMark) where
   -- "a cancelled row is a limit"

@@ -40,6 +40,7 @@ numbered-table w (event.Order k x) = refl
 numbered-table w (event.Cancel k x) = refl
 numbered-table w (event.Match k x) = refl
 numbered-table w (event.Rest k x) = refl
+numbered-table w (event.Figures x) = refl
 
 -- what an event does is never answered with a refusal
 pub never-refused : (w : List ℕ) (e : Event) (n : ℕ) → answerOf (perform w e) ≡ answer.Refused n → ⊥
@@ -52,6 +53,7 @@ never-refused w (event.Order k x) n e = let no : _≡_ {A = ℕ} 0 1 = cc in ome
 never-refused w (event.Cancel k x) n e = let no : _≡_ {A = ℕ} 0 1 = cc in omega arith
 never-refused w (event.Match k x) n e = let no : _≡_ {A = ℕ} 0 1 = cc in omega arith
 never-refused w (event.Rest k x) n e = let no : _≡_ {A = ℕ} 0 1 = cc in omega arith
+never-refused w (event.Figures x) n e = let no : _≡_ {A = ℕ} 0 1 = cc in omega arith
 
 -- the condition with a number is not met
 pub passed : (n : ℕ) (w : List ℕ) (e : Event) → Passed w e → met n (table w e) ≡ false

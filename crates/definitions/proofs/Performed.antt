@@ -41,6 +41,7 @@ headerBy (event.Order k x) h = h
 headerBy (event.Cancel k x) h = h
 headerBy (event.Match k x) h = h
 headerBy (event.Rest k x) h = h
+headerBy (event.Figures x) h = h
 
 -- an event of another customer leaves the header
 pub other-header : (customers k : ℕ) (e : Event) (h : Header) → fedTo k (ownerNamed customers (customerNamed e)) ≡ false → headerBy e h ≡ h
@@ -52,6 +53,7 @@ other-header customers k (event.Order j x) h other = refl
 other-header customers k (event.Cancel j x) h other = refl
 other-header customers k (event.Match j x) h other = refl
 other-header customers k (event.Rest j x) h other = refl
+other-header customers k (event.Figures x) h other = refl
 
 -- what holds of the words before an event, and of those after what it does, holds of those that the gate leaves
 pub kept-by-event : (P : List ℕ → Type 0) (w : List ℕ) → P w → ((e : Event) → Passed w e → P (wordsOf w (perform w e))) → (b : List ℕ) → P (eventWords w b)
@@ -84,6 +86,8 @@ module _ {customers securities : ℕ} (w : List ℕ) (good : Good customers secu
   header-performed (event.Cancel k x) p = header-changed k (passed 4 w (event.Cancel k x) p) (cancelledRow (x .number) (headerOf w .clock))
   header-performed (event.Match k x) p = header-changed k (passed 4 w (event.Match k x) p) (matchedRow (x .number) (x .volume))
   header-performed (event.Rest k x) p = header-changed k (passed 4 w (event.Rest k x) p) (restRow (x .number) (x .price))
+  header-performed (event.Figures x) p =
+      state.header-put-security w (good .sized) (x .security) (below-securities w good (x .security) (passed 4 w (event.Figures x) p)) _
 
   -- a customer's desk is after an event as the lone run has it, or as it was where the event is neither the market's nor that customer's
   pub desk-performed : (P : Desk → Type 0) (k : ℕ) → k < customers → (e : Event) → Passed w e

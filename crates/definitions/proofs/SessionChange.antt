@@ -44,6 +44,7 @@ pub record SecurityCleared (x y : Security) : Type 0 where
   pub prior : y .prior ≡ x .prior
   pub main : ProjectedAbsent (x .main) (y .main)
   pub foreign : ProjectedAbsent (x .foreign) (y .foreign)
+  pub figures : y .figures ≡ x .figures
 
 -- "removes all ATO and ATC rows", and those of type 3 (paper 02, 1): the limit rows, open and cancelled, stay word for word and in their order, and so do the
 -- counters
@@ -68,7 +69,7 @@ security-cleared : (x : Security) → SecurityCleared x (withoutProjected x)
 unfolding withoutProjected
 security-cleared x =
     let absent : (p : Prices) → ProjectedAbsent p (noProjected p) = λ p. record { projected = refl; «last_sale» = refl; bid = refl; offer = refl } in
-    record { terms = refl; prior = refl; main = absent (x .main); foreign = absent (x .foreign) }
+    record { terms = refl; prior = refl; main = absent (x .main); foreign = absent (x .foreign); figures = refl }
 
 module _ (p : Row → Bool) where
   keep-append : (xs ys : List Row) → keep p (xs ++ ys) ≡ keep p xs ++ keep p ys

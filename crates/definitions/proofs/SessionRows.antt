@@ -132,6 +132,7 @@ module _ (l : Lone) (given : Stands (headerOf (l .market) .session) (l .desk .ro
   stand-performed (event.Cancel k x) = left-by _ (λ r e. cancelled-frees (Fits now) (x .number) (headerOf (l .market) .clock) r refl e (λ _ _. e))
   stand-performed (event.Match k x) = left-by _ (λ r e. matched-frees (Fits now) (x .number) (x .volume) r refl e (λ _ _. e))
   stand-performed (event.Rest k x) = left-by _ (λ r e. rest-changes (Fits now) (x .number) (x .price) r e (λ _. refl))
+  stand-performed (event.Figures x) = given
 
 fresh-stand : (session : ℕ) (d : Desk) → d ≡ freshDesk → Stands session (d .rows)
 fresh-stand session d e = rw e (all-replicate (rowInItsSession session) deskRows freeRow refl)

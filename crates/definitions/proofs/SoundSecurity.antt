@@ -1,4 +1,4 @@
--- A sound security record stays sound: after a setup, after prices, and without its projected prices.
+-- A sound security record stays sound: after a setup, after prices, after figures, and without its projected prices.
 -- Assumes nothing.
 use mathlib.Core.Bool.{Bool, true, false, cond, not}
 use mathlib.Core.List.{List, [], _∷_}
@@ -9,10 +9,11 @@ use Rattle.definitions.specs.declared.Prices.{Prices}
 use Rattle.definitions.specs.declared.Security.{Security}
 use Rattle.definitions.specs.declared.Setup.{Setup}
 use Rattle.definitions.specs.declared.BoardPrices.{BoardPrices}
+use Rattle.definitions.specs.declared.SecurityFigures.{SecurityFigures}
 use Rattle.definitions.specs.Codes.{foreignBoard}
-use Rattle.definitions.specs.Sound.{priceOrAbsent, soundTerms, soundPrior, soundPrices, soundSecurity}
-use Rattle.definitions.specs.Gate.{afterSetup, withPrices, afterPrices, noProjected, withoutProjected}
-use Rattle.definitions.proofs.Tests.{joined-parts, joined-whole}
+use Rattle.definitions.specs.Sound.{priceOrAbsent, soundTerms, soundPrior, soundPrices, settable, zeroFigures, soundFigures, soundSecurity}
+use Rattle.definitions.specs.Gate.{afterSetup, withPrices, afterPrices, afterFigures, noProjected, withoutProjected}
+use Rattle.definitions.proofs.Tests.{or-second, joined-parts, joined-whole}
 
 -- a sound security record, with a name for each part of the test
 pub record SoundSecurity (s : Security) : Type 0 where
@@ -20,20 +21,21 @@ pub record SoundSecurity (s : Security) : Type 0 where
   pub prior : soundPrior (s .prior) ≡ true
   pub main : soundPrices (s .main) ≡ true
   pub foreign : soundPrices (s .foreign) ≡ true
+  pub figures : soundFigures (s .prior .close) (s .figures) ≡ true
 
 -- the tests behind the first
 abbrev laterTests : Security → List Bool
-laterTests s = soundPrior (s .prior) ∷ soundPrices (s .main) ∷ soundPrices (s .foreign) ∷ []
+laterTests s = soundPrior (s .prior) ∷ soundPrices (s .main) ∷ soundPrices (s .foreign) ∷ soundFigures (s .prior .close) (s .figures) ∷ []
 
 pub security-true : (s : Security) → soundSecurity s ≡ true → SoundSecurity s
 unfolding soundSecurity
 security-true s e =
     let p = joined-parts (soundTerms (s .terms)) (laterTests s) e in
-    record { terms = p .0; prior = p .1 .0; main = p .1 .1 .0; foreign = p .1 .1 .1 .0 }
+    record { terms = p .0; prior = p .1 .0; main = p .1 .1 .0; foreign = p .1 .1 .1 .0; figures = p .1 .1 .1 .1 .0 }
 
 pub true-security : (s : Security) → SoundSecurity s → soundSecurity s ≡ true
 unfolding soundSecurity
-true-security s h = joined-whole (soundTerms (s .terms)) (laterTests s) (h .terms, (h .prior, (h .main, (h .foreign, tt))))
+true-security s h = joined-whole (soundTerms (s .terms)) (laterTests s) (h .terms, (h .prior, (h .main, (h .foreign, (h .figures, tt)))))
 
 pub sound-setup : (x : Setup) (s : Security) → soundSecurity s ≡ true → not (soundTerms (x .terms)) ≡ false → not (soundPrior (x .prior)) ≡ false
     → soundSecurity (afterSetup x s) ≡ true
@@ -42,13 +44,13 @@ sound-setup x s e c p =
     let h = security-true s e in
     true-security
     (afterSetup x s)
-    (record { terms = not-false (soundTerms (x .terms)) c; prior = not-false (soundPrior (x .prior)) p; main = h .main; foreign = h .foreign })
+    (record { terms = not-false (soundTerms (x .terms)) c; prior = not-false (soundPrior (x .prior)) p; main = h .main; foreign = h .foreign; figures = refl })
 
 -- a sound security record with other sound prices
 sound-with : (main foreign : Prices) (s : Security) → SoundSecurity s → soundPrices main ≡ true → soundPrices foreign ≡ true
     → soundSecurity (withPrices main foreign s) ≡ true
 sound-with main foreign s h m f =
-    true-security (withPrices main foreign s) (record { terms = h .terms; prior = h .prior; main = m; foreign = f })
+    true-security (withPrices main foreign s) (record { terms = h .terms; prior = h .prior; main = m; foreign = f; figures = h .figures })
 
 pub sound-prices : (x : BoardPrices) (s : Security) → soundSecurity s ≡ true → not (soundPrices (x .prices)) ≡ false
     → soundSecurity (afterPrices x s) ≡ true
@@ -64,6 +66,15 @@ sound-prices x s e p = go (eqb (x .board) foreignBoard)
     go : (t : Bool) → soundSecurity (cond t (withPrices (s .main) (x .prices) s) (withPrices (x .prices) (s .foreign) s)) ≡ true
     go true = sound-with (s .main) (x .prices) s h (h .main) b
     go false = sound-with (x .prices) (s .foreign) s h b (h .foreign)
+
+pub sound-figures : (x : SecurityFigures) (s : Security) → soundSecurity s ≡ true → not (settable (s .prior .close) (x .figures)) ≡ false
+    → soundSecurity (afterFigures x s) ≡ true
+unfolding afterFigures
+sound-figures x s e set =
+    let h = security-true s e in
+    true-security
+    (afterFigures x s)
+    (record { terms = h .terms; prior = h .prior; main = h .main; foreign = h .foreign; figures = or-second (zeroFigures (x .figures)) (not-false (settable (s .prior .close) (x .figures)) set) })
 
 sound-noProjected : (p : Prices) → soundPrices p ≡ true → soundPrices (noProjected p) ≡ true
 sound-noProjected p e =

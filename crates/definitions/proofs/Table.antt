@@ -11,7 +11,7 @@ use Rattle.definitions.specs.Lists.{all, firstMet}
 
 -- the numbers of the table: none is 0, which says that no test is met
 abbrev pub lastNumber : ℕ
-lastNumber = 12
+lastNumber = 13
 
 abbrev pub inTable : ℕ × Bool → Bool
 inTable c = leb 1 (c .0) && leb (c .0) lastNumber

@@ -253,6 +253,10 @@ module _ {customers securities : ℕ} (w : List ℕ) (good : Good customers secu
       good-changed k (passed 4 w (event.Rest k x) p) (restRow (x .number) (x .price))
       (rest-sound securities (headerOf w .clock) (x .number) (x .price) (not-false (legal (x .price)) (passed 6 w (event.Rest k x) p)))
       (rest-kept (x .number) (x .price))
+  performs (event.Figures x) p =
+      let at = event.Figures x in
+      let below = below-securities (x .security) (passed 4 w at p) in
+      good-put-security (x .security) _ below (security.sound-figures x _ (good .securities-sound (x .security) below) (passed 13 w at p))
 
   -- each event keeps a state well formed
   pub keeps : (b : List ℕ) → Good customers securities (eventWords w b)

@@ -14,6 +14,7 @@ use Rattle.definitions.specs.declared.Answer.the-variants as answer
 abbrev pub verdictNumber : Verdict → ℕ
 verdictNumber verdict.RejectS = 219
 verdictNumber verdict.RejectV = 222
+verdictNumber verdict.RejectC = 203
 verdictNumber verdict.RejectQ = 217
 verdictNumber verdict.RejectW = 223
 verdictNumber verdict.RejectP = 216
@@ -41,6 +42,7 @@ decimalIn (suc k) n = cond (ltb n 10) ((48 + n) ∷ []) (decimalIn k (n / 10) ++
 abbrev pub verdictText : Verdict → List ℕ
 verdictText verdict.RejectS = ascii "reject S"
 verdictText verdict.RejectV = ascii "reject V"
+verdictText verdict.RejectC = ascii "reject C"
 verdictText verdict.RejectQ = ascii "reject Q"
 verdictText verdict.RejectW = ascii "reject W"
 verdictText verdict.RejectP = ascii "reject P"

@@ -96,6 +96,10 @@ deskRows = 32
 abbrev pub maxVolume : ℕ
 maxVolume = 20_000_000
 
+-- paper 02, 3: "old shares (2), new shares (2)", the largest number of two bytes
+abbrev pub maxShares : ℕ
+maxShares = 65_535
+
 -- "each stays at 4,294,967,295 once there"
 abbrev pub maxCount : ℕ
 maxCount = 4_294_967_295

@@ -112,6 +112,7 @@ countedUp n = cond (ltb n maxCount) (n + 1) n
 abbrev pub counterOf : Verdict → Counter
 counterOf verdict.RejectS = counts.Rejected
 counterOf verdict.RejectV = counts.Rejected
+counterOf verdict.RejectC = counts.Rejected
 counterOf verdict.RejectQ = counts.Rejected
 counterOf verdict.RejectW = counts.Rejected
 counterOf verdict.RejectP = counts.Rejected

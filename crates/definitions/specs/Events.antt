@@ -7,7 +7,7 @@ use lib.ListN.{length, getD}
 use Rattle.definitions.specs.declared.Event.{Event}
 use Rattle.definitions.specs.declared.Event.the-variants as event
 use Rattle.definitions.specs.Lists.{firstMet}
-use Rattle.definitions.specs.State.{termsAt}
+use Rattle.definitions.specs.State.{termsAt, figures}
 
 -- "little-endian": the number of two and of four bytes from a place on
 abbrev pub two : List ℕ → ℕ → ℕ
@@ -60,23 +60,37 @@ matchOf b = event.Match (two b 1) (record { number = four b 3; volume = four b 7
 abbrev pub restOf : List ℕ → Event
 restOf b = event.Rest (two b 1) (record { number = four b 3; price = four b 7 })
 
+-- paper 02, 3: "New kind 9, length 15: security (2), dividend (4), subscription (4), old shares (2), new shares (2)"
+abbrev pub figuresOf : List ℕ → Event
+figuresOf b = event.Figures (record { security = two b 1; figures = figures (four b 3) (four b 7) (two b 11) (two b 13) })
+
 -- the table from kind 1 on: length and body
 abbrev pub kinds : List (ℕ × (List ℕ → Event))
-kinds = (5, clockOf) ∷ (2, sessionOf) ∷ (14, setupOf) ∷ (20, pricesOf) ∷ (21, orderOf) ∷ (7, cancelOf) ∷ (11, matchOf) ∷ (11, restOf) ∷ []
+kinds =
+    (5, clockOf)
+    ∷ (2, sessionOf)
+    ∷ (14, setupOf)
+    ∷ (20, pricesOf)
+    ∷ (21, orderOf)
+    ∷ (7, cancelOf)
+    ∷ (11, matchOf)
+    ∷ (11, restOf)
+    ∷ (15, figuresOf)
+    ∷ []
 
 -- 0 for an unknown kind, for which 3 is found before its body matters
 unfoldable pub lengthOf : ℕ → ℕ
-lengthOf kind = cond (eqb kind 0) 0 (getD kinds (kind - 1) (0, restOf) .0)
+lengthOf kind = cond (eqb kind 0) 0 (getD kinds (kind - 1) (0, figuresOf) .0)
 
 unfoldable pub eventOf : ℕ → List ℕ → Event
-eventOf kind b = getD kinds (kind - 1) (0, restOf) .1 b
+eventOf kind b = getD kinds (kind - 1) (0, figuresOf) .1 b
 
 -- "An event is read whole": the event as its kind lays it out
 abbrev pub eventIn : List ℕ → Event
 eventIn b = eventOf (getD b 0 0) b
 
--- the table's place "event bytes", conditions 2 and 3: "empty, or not the kind's length", "kind not 1 to 7", and since paper 02, 1,
--- not 8; "an unknown kind is found before a wrong length"
+-- the table's place "event bytes", conditions 2 and 3: "empty, or not the kind's length", "kind not 1 to 7", and since paper 02, 1 and 3,
+-- not 8 or 9; "an unknown kind is found before a wrong length"
 abbrev pub bytesConditions : List ℕ → List (ℕ × Bool)
 bytesConditions b =
     (2, eqb (length b) 0)
@@ -99,6 +113,7 @@ named (event.Order k x) = (one k, one (x .security))
 named (event.Cancel k x) = (one k, none)
 named (event.Match k x) = (one k, none)
 named (event.Rest k x) = (one k, none)
+named (event.Figures x) = (none, one (x .security))
 
 abbrev pub customerNamed : Event → Named
 customerNamed e = named e .0

@@ -2,16 +2,20 @@
 use mathlib.Core.Bool.{Bool, true, cond, _&&_, not}
 use mathlib.Core.List.{List, [], _∷_, _++_}
 use Prim.Native.Nat.{ℕ}
-use lib.Dec.{eqb}
+use lib.Dec.{ltb, eqb}
 use lib.ListN.{length}
 use Rattle.definitions.specs.declared.Terms.{Terms}
 use Rattle.definitions.specs.declared.PriorPrices.{PriorPrices}
 use Rattle.definitions.specs.declared.Prices.{Prices}
+use Rattle.definitions.specs.declared.Figures.{Figures}
 use Rattle.definitions.specs.declared.Security.{Security}
+use Rattle.definitions.specs.declared.DailyRange.{DailyRange}
+use Rattle.definitions.specs.declared.DailyRange.the-variants as ranges
 use Rattle.definitions.specs.declared.Desk.{Desk}
 use Rattle.definitions.specs.declared.MarketView.{MarketView}
 use Rattle.definitions.specs.declared.Setup.{Setup}
 use Rattle.definitions.specs.declared.BoardPrices.{BoardPrices}
+use Rattle.definitions.specs.declared.SecurityFigures.{SecurityFigures}
 use Rattle.definitions.specs.declared.Order.{Order}
 use Rattle.definitions.specs.declared.Event.{Event}
 use Rattle.definitions.specs.declared.Event.the-variants as event
@@ -20,10 +24,11 @@ use Rattle.definitions.specs.declared.Answer.{Answer}
 use Rattle.definitions.specs.declared.Answer.the-variants as answer
 use Rattle.definitions.specs.Codes.{foreignBoard}
 use Rattle.definitions.specs.Lists.{allBelow, each, put, firstMet}
-use Rattle.definitions.specs.State.{headerOf, securityAt, deskAt, putSecurity, putDesk, stateFits, sizesFit, stateSize, fresh, clockPlace, sessionPlace}
+use Rattle.definitions.specs.State.{noFigures, headerOf, securityAt, deskAt, putSecurity, putDesk, stateFits, sizesFit, stateSize, fresh, clockPlace, sessionPlace}
 use Rattle.definitions.specs.Sound.{soundSecurity, soundDesk}
 use Rattle.definitions.specs.Events.{eventIn, bytesConditions, Named, none, one, every, customerNamed, securityNamed}
 use Rattle.definitions.specs.Desks.{sessionRow, cancelledRow, matchedRow, restRow, changed, ordered}
+use Rattle.definitions.specs.Ranges.{hasRange, rangeOf}
 use Rattle.definitions.specs.Rules.{View, verdictOf}
 use Rattle.definitions.specs.Refusals.{eventConditions}
 
@@ -60,7 +65,7 @@ numberOf every = 0
 abbrev pub viewOf : List ℕ → Event → View
 viewOf w e = viewAt w (numberOf (securityNamed e)) (numberOf (customerNamed e))
 
--- 8: "a record that this kind reads is not sound: 2 reads all; 3 and 4 the security; 5 the security and the desk; 6 and 7 the desk", and so 8: what it names
+-- 8: "a record that this kind reads is not sound: 2 reads all; 3 and 4 the security; 5 the security and the desk; 6 and 7 the desk", and so 8 and 9: what it names
 abbrev pub soundSecurityAt : List ℕ → ℕ → Bool
 soundSecurityAt w s = soundSecurity (securityAt w s)
 
@@ -82,19 +87,39 @@ conditions w b =
     (1, not (stateFits w))
     ∷ (bytesConditions b ++ eventConditions (headerOf w) ((8, not (recordsSound w (eventIn b))) ∷ []) (viewOf w (eventIn b)) (eventIn b))
 
-abbrev pub security : Terms → PriorPrices → Prices → Prices → Security
-security terms prior main foreign = record { terms = terms; prior = prior; main = main; foreign = foreign }
+-- paper 02, 3: the range of a security, for an order ticket; none also where an order for it would meet condition 1, 4 or 8
+unfoldable pub dailyRange : List ℕ → ℕ → DailyRange
+dailyRange w s =
+    cond
+    (stateFits w && ltb s (headerOf w .securities) && soundSecurityAt w s && hasRange (securityAt w s))
+    (ranges.Given (rangeOf (securityAt w s .prior .close) (securityAt w s .figures)))
+    ranges.None
 
--- "Kinds 3 and 4 replace the fields they name."
+-- 0, the absent price, for none
+abbrev pub floorNumber : DailyRange → ℕ
+floorNumber (ranges.Given r) = r .floor
+floorNumber ranges.None = 0
+
+abbrev pub ceilingNumber : DailyRange → ℕ
+ceilingNumber (ranges.Given r) = r .ceiling
+ceilingNumber ranges.None = 0
+
+abbrev pub security : Terms → PriorPrices → Prices → Prices → Figures → Security
+security terms prior main foreign figures = record { terms = terms; prior = prior; main = main; foreign = foreign; figures = figures }
+
+-- "Kinds 3 and 4 replace the fields they name."; paper 02, 3, of kind 9's figures: "kind 3 clears it"
 unfoldable pub afterSetup : Setup → Security → Security
-afterSetup x s = security (x .terms) (x .prior) (s .main) (s .foreign)
+afterSetup x s = security (x .terms) (x .prior) (s .main) (s .foreign) noFigures
 
 abbrev pub withPrices : Prices → Prices → Security → Security
-withPrices main foreign s = security (s .terms) (s .prior) main foreign
+withPrices main foreign s = security (s .terms) (s .prior) main foreign (s .figures)
 
 unfoldable pub afterPrices : BoardPrices → Security → Security
 afterPrices x s =
     cond (eqb (x .board) foreignBoard) (withPrices (s .main) (x .prices) s) (withPrices (x .prices) (s .foreign) s)
+
+unfoldable pub afterFigures : SecurityFigures → Security → Security
+afterFigures x s = security (s .terms) (s .prior) (s .main) (s .foreign) (x .figures)
 
 -- "makes every projected price absent"
 abbrev pub noProjected : Prices → Prices
@@ -137,6 +162,7 @@ perform w (event.Order k x) = done (answer.Verdict (verdictAt w k x)) (putDesk w
 perform w (event.Cancel k x) = done answer.Ok (changeDesk (changed (cancelledRow (x .number) (headerOf w .clock))) k w)
 perform w (event.Match k x) = done answer.Ok (changeDesk (changed (matchedRow (x .number) (x .volume))) k w)
 perform w (event.Rest k x) = done answer.Ok (changeDesk (changed (restRow (x .number) (x .price))) k w)
+perform w (event.Figures x) = done answer.Ok (changeSecurity (afterFigures x) (x .security) w)
 
 abbrev pub refusedOr : ℕ → Outcome → Outcome
 refusedOr n o = cond (eqb n 0) o (refused n)

@@ -6,6 +6,7 @@ pub mod State
 pub mod Sound
 pub mod Events
 pub mod Desks
+pub mod Ranges
 pub mod Rules
 pub mod Refusals
 pub mod Gate

@@ -17,7 +17,7 @@ use Rattle.definitions.specs.Events.{eventIn, bytesConditions, securityN
 use Rattle.definitions.specs.Desks.{freshDesk, sessionRow, cancelledRow, matchedRow, restRow, changed, ordered}
 use Rattle.definitions.specs.Rules.{View, verdictOf}
 use Rattle.definitions.specs.Refusals.{eventConditions}
-use Rattle.definitions.specs.Gate.{marketViewAt, numberOf, changeSecurity, afterSetup, afterPrices, sessionMarket}
+use Rattle.definitions.specs.Gate.{marketViewAt, numberOf, changeSecurity, afterSetup, afterPrices, afterFigures, sessionMarket}
 
 -- "It holds the market's words (header and security records) and one desk"
 pub record Lone : Type 0 where
@@ -51,7 +51,7 @@ loneSession l s =
     (loneDone answer.Ok (sessionMarket s (l .market)) (changed sessionRow (l .desk)))
 
 -- "Kind 1 sets the clock. .. Kinds 3 and 4 set the fields they name. The answer is ok. Kind 5 gets the first verdict that applies; .. Kind 6 ..
--- Kind 7 .. The answer is ok." "Kinds and rules of later requests hold here too": kind 8.
+-- Kind 7 .. The answer is ok." "Kinds and rules of later requests hold here too": kinds 8 and 9.
 unfoldable pub lonePerform : Lone → Event → Answer × Lone
 lonePerform l (event.Clock t) = loneDone answer.Ok (put (l .market) clockPlace (t ∷ [])) (l .desk)
 lonePerform l (event.Session s) = loneSession l s
@@ -62,6 +62,7 @@ lonePerform l (event.Order k x) =
 lonePerform l (event.Cancel k x) = loneDone answer.Ok (l .market) (changed (cancelledRow (x .number) (headerOf (l .market) .clock)) (l .desk))
 lonePerform l (event.Match k x) = loneDone answer.Ok (l .market) (changed (matchedRow (x .number) (x .volume)) (l .desk))
 lonePerform l (event.Rest k x) = loneDone answer.Ok (l .market) (changed (restRow (x .number) (x .price)) (l .desk))
+lonePerform l (event.Figures x) = loneDone answer.Ok (changeSecurity (afterFigures x) (x .security) (l .market)) (l .desk)
 
 abbrev pub loneRefusedOr : ℕ → Lone → (Answer × Lone) → Answer × Lone
 loneRefusedOr n l o = cond (eqb n 0) o (loneDone (answer.Refused n) (l .market) (l .desk))

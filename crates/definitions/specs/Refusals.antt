@@ -6,6 +6,7 @@ use Prim.Native.Nat.{ℕ}
 use lib.Dec.{leb, ltb, eqb}
 use Rattle.ladder.specs.Ladder.{legal}
 use Rattle.definitions.specs.declared.Header.{Header}
+use Rattle.definitions.specs.declared.Figures.{Figures}
 use Rattle.definitions.specs.declared.Row.{Row}
 use Rattle.definitions.specs.declared.Order.{Order}
 use Rattle.definitions.specs.declared.Match.{Match}
@@ -13,7 +14,7 @@ use Rattle.definitions.specs.declared.Event.{Event}
 use Rattle.definitions.specs.declared.Event.the-variants as event
 use Rattle.definitions.specs.Codes.{preClose, foreignBoard, sell, mp, dma, lastTime, deskRows}
 use Rattle.definitions.specs.Lists.{any, count}
-use Rattle.definitions.specs.Sound.{soundTerms, soundPrior, soundPrices, pricedAs}
+use Rattle.definitions.specs.Sound.{soundTerms, soundPrior, soundPrices, settable, pricedAs}
 use Rattle.definitions.specs.Events.{Named, none, one, every, customerNamed, securityNamed}
 use Rattle.definitions.specs.Desks.{openOrInMinute, openWith, openMpWith, takesRow}
 use Rattle.definitions.specs.Rules.{View, verdictOf}
@@ -43,6 +44,7 @@ fieldConditions h (event.Order k x) = (5, badCode x) ∷ (6, not (pricedAs (x .�
 fieldConditions h (event.Cancel k x) = (5, eqb (x .number) 0) ∷ []
 fieldConditions h (event.Match k x) = (5, eqb (x .number) 0) ∷ []
 fieldConditions h (event.Rest k x) = (5, eqb (x .number) 0) ∷ (6, not (legal (x .price))) ∷ []
+fieldConditions h (event.Figures x) = []
 
 -- 9: "order number equal to that of an open row or a row cancelled at most 60,000 ms ago"
 abbrev pub holdsNumber : ℕ → ℕ → Row → Bool
@@ -71,6 +73,10 @@ abbrev pub deskFull : View → Order → Bool
 deskFull v o =
     takesRow (verdictOf v o) && eqb (count (openOrInMinute (v .market .clock)) (v .desk .rows)) deskRows
 
+-- paper 02, 3: "13 if old is 0 or the dividend is not below the prior close, checked after 8 on the security"
+abbrev pub badFigures : View → Figures → Bool
+badFigures v f = not (settable (v .market .security .prior .close) f)
+
 abbrev pub laterConditions : View → Event → List (ℕ × Bool)
 laterConditions v (event.Clock t) = []
 laterConditions v (event.Session s) = []
@@ -80,6 +86,7 @@ laterConditions v (event.Order k x) = (9, numberTaken v x) ∷ (12, deskFull v x
 laterConditions v (event.Cancel k x) = (10, noOpenRow v (x .number)) ∷ []
 laterConditions v (event.Match k x) = (10, noOpenRow v (x .number)) ∷ (11, badVolume v x) ∷ []
 laterConditions v (event.Rest k x) = (10, noOpenMpRow v (x .number)) ∷ []
+laterConditions v (event.Figures x) = (13, badFigures v (x .figures)) ∷ []
 
 -- the table: "Checks run from top to bottom". The records' condition, 8, is the gate's alone.
 abbrev pub earlyConditions : Header → Event → List (ℕ × Bool)

@@ -10,6 +10,7 @@ use Rattle.definitions.specs.declared.Prices.{Prices}
 use Rattle.definitions.specs.declared.Security.{Security}
 use Rattle.definitions.specs.declared.Row.{Row}
 use Rattle.definitions.specs.declared.Desk.{Desk}
+use Rattle.definitions.specs.declared.Range.{Range}
 use Rattle.definitions.specs.declared.MarketView.{MarketView}
 use Rattle.definitions.specs.declared.Order.{Order}
 use Rattle.definitions.specs.declared.Verdict.{Verdict}
@@ -17,6 +18,7 @@ use Rattle.definitions.specs.declared.Verdict.the-variants as verdict
 use Rattle.definitions.specs.Codes.{closed, preOpen, opened, break, preClose, inAuction, mainBoard, foreignBoard, buy, sell, ato, atc, mp, isLimit, isAuction, online, dma, maxVolume}
 use Rattle.definitions.specs.Desks.{isOpen, cancelledInMinute}
 use Rattle.definitions.specs.Lists.{any}
+use Rattle.definitions.specs.Ranges.{hasRange, rangeOf}
 
 -- what a rule may see: the market's side (session, clock, one security) and one desk; no customer's number
 pub record View : Type 0 where
@@ -56,6 +58,17 @@ ruleV m o =
     || ltb maxVolume (o .volume)
     || not (eqb (o .volume % m .security .terms .lot) 0)
     || isLimit (o .«order_type») && ltb 50_000_000_000 (valueOf o)
+
+-- C: "For securities that are not free and have a prior close, a main-board limit outside the range is rejected with C, between V and Q."
+abbrev pub outsideRange : Range → ℕ → Bool
+outsideRange r price = ltb price (r .floor) || ltb (r .ceiling) price
+
+unfoldable pub ruleC : MarketView → Order → Bool
+ruleC m o =
+    isLimit (o .«order_type»)
+    && eqb (o .board) mainBoard
+    && hasRange (m .security)
+    && outsideRange (rangeOf (m .security .prior .close) (m .security .figures)) (o .price)
 
 -- "on the foreign board else the main board's last sale"
 abbrev pub mainLastSale : Security → ℕ → ℕ
@@ -180,6 +193,7 @@ verdictOf v o =
     firstThat
     ((ruleS (v .market) o, verdict.RejectS)
     ∷ (ruleV (v .market) o, verdict.RejectV)
+    ∷ (ruleC (v .market) o, verdict.RejectC)
     ∷ (ruleQ (v .market) o, verdict.RejectQ)
     ∷ (ruleW v o, verdict.RejectW)
     ∷ (ruleP v o, verdict.RejectP)

@@ -8,10 +8,11 @@ use Rattle.ladder.specs.Ladder.{legal}
 use Rattle.definitions.specs.declared.Terms.{Terms}
 use Rattle.definitions.specs.declared.PriorPrices.{PriorPrices}
 use Rattle.definitions.specs.declared.Prices.{Prices}
+use Rattle.definitions.specs.declared.Figures.{Figures}
 use Rattle.definitions.specs.declared.Security.{Security}
 use Rattle.definitions.specs.declared.Row.{Row}
 use Rattle.definitions.specs.declared.Desk.{Desk}
-use Rattle.definitions.specs.Codes.{freeMark, openMark, cancelledMark, foreignBoard, sell, mp, isLimit, maxVolume}
+use Rattle.definitions.specs.Codes.{freeMark, openMark, cancelledMark, foreignBoard, sell, mp, isLimit, maxVolume, maxShares}
 use Rattle.definitions.specs.Lists.{any, all}
 use Rattle.definitions.specs.State.{rowWords}
 
@@ -30,8 +31,25 @@ soundPrior p = leb (p .close) lastPrice && leb (p .ipo) lastPrice
 abbrev pub soundPrices : Prices → Bool
 soundPrices p = priceOrAbsent (p .projected) && priceOrAbsent (p .«last_sale») && priceOrAbsent (p .bid) && priceOrAbsent (p .offer)
 
+-- paper 02, 3, what kind 9 may set: "Turned away: 13 if old is 0 or the dividend is not below the prior close"; its shares have two bytes each
+abbrev pub settable : ℕ → Figures → Bool
+settable close f =
+    leb 1 (f .«old_shares») && leb (f .«old_shares») maxShares && leb (f .«new_shares») maxShares && ltb (f .dividend) close
+
+-- "they are sound if all zero or as kind 9 could have set them"
+abbrev pub zeroFigures : Figures → Bool
+zeroFigures f = eqb (f .dividend) 0 && eqb (f .subscription) 0 && eqb (f .«old_shares») 0 && eqb (f .«new_shares») 0
+
+abbrev pub soundFigures : ℕ → Figures → Bool
+soundFigures close f = zeroFigures f || settable close f
+
 unfoldable pub soundSecurity : Security → Bool
-soundSecurity s = soundTerms (s .terms) && soundPrior (s .prior) && soundPrices (s .main) && soundPrices (s .foreign)
+soundSecurity s =
+    soundTerms (s .terms)
+    && soundPrior (s .prior)
+    && soundPrices (s .main)
+    && soundPrices (s .foreign)
+    && soundFigures (s .prior .close) (s .figures)
 
 abbrev pub marked : Row → Bool
 marked r = not (eqb (r .mark) freeMark)

@@ -7,6 +7,7 @@ use lib.ListN.{length, getD, take, drop, replicate}
 use Rattle.definitions.specs.declared.Header.{Header}
 use Rattle.definitions.specs.declared.Terms.{Terms}
 use Rattle.definitions.specs.declared.Prices.{Prices}
+use Rattle.definitions.specs.declared.Figures.{Figures}
 use Rattle.definitions.specs.declared.Security.{Security}
 use Rattle.definitions.specs.declared.Row.{Row}
 use Rattle.definitions.specs.declared.Desk.{Desk}
@@ -17,7 +18,7 @@ abbrev pub headerSize : ℕ
 headerSize = 4
 
 abbrev pub securitySize : ℕ
-securitySize = 13
+securitySize = 17
 
 abbrev pub rowSize : ℕ
 rowSize = 9
@@ -28,7 +29,7 @@ countersSize = 3
 abbrev pub deskSize : ℕ
 deskSize = 291
 
--- "it has exactly 4 + 13×S + 291×C words"
+-- "it has exactly 4 + 13×S + 291×C words"; paper 02, 3: "The security's record gains these four words at its end"
 abbrev pub securityPlace : ℕ → ℕ
 securityPlace s = headerSize + securitySize * s
 
@@ -62,12 +63,34 @@ pricesAt w at = record { projected = getD w at 0; «last_sale» = getD w (at + 1
 abbrev pub pricesWords : Prices → List ℕ
 pricesWords p = p .projected ∷ p .«last_sale» ∷ p .bid ∷ p .offer ∷ []
 
+-- paper 02, 3: "dividend (4), subscription (4), old shares (2), new shares (2)", "zero without figures"
+abbrev pub figures : ℕ → ℕ → ℕ → ℕ → Figures
+figures dividend subscription old new = record { dividend = dividend; subscription = subscription; «old_shares» = old; «new_shares» = new }
+
+abbrev pub noFigures : Figures
+noFigures = figures 0 0 0 0
+
+abbrev pub figuresWords : Figures → List ℕ
+figuresWords f = f .dividend ∷ f .subscription ∷ f .«old_shares» ∷ f .«new_shares» ∷ []
+
 unfoldable pub securityOf : List ℕ → Security
-securityOf w = record { terms = termsAt w 0; prior = record { close = getD w 3 0; ipo = getD w 4 0 }; main = pricesAt w 5; foreign = pricesAt w 9 }
+securityOf w =
+    record {
+      terms = termsAt w 0;
+      prior = record { close = getD w 3 0; ipo = getD w 4 0 };
+      main = pricesAt w 5;
+      foreign = pricesAt w 9;
+      figures = figures (getD w 13 0) (getD w 14 0) (getD w 15 0) (getD w 16 0);
+    }
 
 unfoldable pub securityWords : Security → List ℕ
 securityWords s =
-    s .terms .lot ∷ s .terms .free ∷ s .terms .«first_day» ∷ s .prior .close ∷ s .prior .ipo ∷ (pricesWords (s .main) ++ pricesWords (s .foreign))
+    s .terms .lot
+    ∷ s .terms .free
+    ∷ s .terms .«first_day»
+    ∷ s .prior .close
+    ∷ s .prior .ipo
+    ∷ (pricesWords (s .main) ++ (pricesWords (s .foreign) ++ figuresWords (s .figures)))
 
 -- "Row: mark .., order number, security, board .., side .., type .., price, volume, cancel time"
 abbrev pub row : ℕ → ℕ → ℕ → ℕ → ℕ → ℕ → ℕ → ℕ → ℕ → Row

@@ -41,6 +41,8 @@ pub const MAX_SECURITIES: u32 = 1_024;
 
 pub const MAX_VOLUME: u32 = 20_000_000;
 
+pub const MAX_SHARES: u32 = 65_535;
+
 pub const DESK_ROWS: usize = 32;
 
 pub const MAX_COUNT: u32 = 4_294_967_295;
@@ -55,7 +57,7 @@ pub const SESSION_PLACE: usize = 3;
 // Sizes in words.
 pub const HEADER_SIZE: usize = 4;
 
-pub const SECURITY_SIZE: usize = 13;
+pub const SECURITY_SIZE: usize = 17;
 
 pub const ROW_SIZE: usize = 9;
 

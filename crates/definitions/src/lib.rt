@@ -31,11 +31,37 @@ pub struct Prices {
     pub offer: u32,
 }
 
+// Paper 02, 3: what a dividend and a right to new shares take from the prior close; all zero without figures.
+pub struct Figures {
+    pub dividend: u32,
+    pub subscription: u32,
+    pub old_shares: u32,
+    pub new_shares: u32,
+}
+
 pub struct Security {
     pub terms: Terms,
     pub prior: PriorPrices,
     pub main: Prices,
     pub foreign: Prices,
+    pub figures: Figures,
+}
+
+// Paper 02, 3: the base of the day's range, "kept as two whole numbers".
+pub struct Base {
+    pub numerator: u64,
+    pub denominator: u64,
+}
+
+pub struct Range {
+    pub floor: u32,
+    pub ceiling: u32,
+}
+
+// What a caller is given of a security's range.
+pub enum DailyRange {
+    Given(Range),
+    None,
 }
 
 // `order_type` is the paper's type of an order: `type` is a keyword.
@@ -105,6 +131,12 @@ pub struct Rest {
     pub price: u32,
 }
 
+// Paper 02, 3: new figures of a security.
+pub struct SecurityFigures {
+    pub security: u32,
+    pub figures: Figures,
+}
+
 pub enum Event {
     Clock(u32),
     Session(u32),
@@ -114,6 +146,7 @@ pub enum Event {
     Cancel(u32, Cancel),
     Match(u32, Match),
     Rest(u32, Rest),
+    Figures(SecurityFigures),
 }
 
 // What reading an event's bytes gives: the event, or the number of the refusal.
@@ -126,6 +159,7 @@ pub enum Reading {
 pub enum Verdict {
     RejectS,
     RejectV,
+    RejectC,
     RejectQ,
     RejectW,
     RejectP,
