@@ -325,8 +325,8 @@ fn ladder_and_orders() {
     for close in [
         "65.60", "24.50", "4.99", "2.01", "399.99", "0.50", "99979.99",
     ] {
-        let range = ladder_line(close, "10 positions");
-        let (from, to) = (&range[0], &range[1]);
+        let ends = ladder_line(close, "10 positions");
+        let (from, to) = (&ends[0], &ends[1]);
         for within in [from, to] {
             assert_eq!(answer(close, within), "accept\n", "{close}: {within}");
         }
