@@ -6,7 +6,7 @@
  * nothing. Events are handed in as bytes, and each gets one answer number.
  *
  * Promised: every function ends, whatever the words and bytes; it writes only
- * what it was lent for writing; a refusal (1 to 12) changes no word.
+ * what it was lent for writing; a refusal (1 to 13) changes no word.
  *
  * Owed by the caller: each pointer is valid for the length that follows it
  * (a count of its type) and aligned for its type, also where that length is 0:
@@ -43,7 +43,7 @@ extern "C" {
  * no byte, answer or word differs. guvontsira_version gives the library's; a
  * program stops where the two differ.
  */
-#define GUVONTSIRA_VERSION 30000 /* 3.0.0 */
+#define GUVONTSIRA_VERSION 40000 /* 4.0.0 */
 
 #define GUVONTSIRA_MAX_CUSTOMERS 256
 #define GUVONTSIRA_MAX_SECURITIES 1024
@@ -65,7 +65,8 @@ enum guvontsira_kind {
     GUVONTSIRA_KIND_ORDER = 5,
     GUVONTSIRA_KIND_CANCEL = 6,
     GUVONTSIRA_KIND_MATCH = 7,
-    GUVONTSIRA_KIND_REST = 8
+    GUVONTSIRA_KIND_REST = 8,
+    GUVONTSIRA_KIND_FIGURES = 9
 };
 
 #define GUVONTSIRA_CLOCK_LENGTH 5
@@ -76,6 +77,7 @@ enum guvontsira_kind {
 #define GUVONTSIRA_CANCEL_LENGTH 7
 #define GUVONTSIRA_MATCH_LENGTH 11
 #define GUVONTSIRA_REST_LENGTH 11
+#define GUVONTSIRA_FIGURES_LENGTH 15
 #define GUVONTSIRA_MAX_LENGTH 21 /* of the longest kind */
 
 /*
@@ -122,7 +124,13 @@ enum guvontsira_event_byte {
     /* 8 rest */
     GUVONTSIRA_REST_CUSTOMER_BYTE = 1,     /* 2: from 0 */
     GUVONTSIRA_REST_NUMBER_BYTE = 3,       /* 4: not 0 */
-    GUVONTSIRA_REST_PRICE_BYTE = 7         /* 4: on the ladder */
+    GUVONTSIRA_REST_PRICE_BYTE = 7,        /* 4: on the ladder */
+    /* 9 figures */
+    GUVONTSIRA_FIGURES_SECURITY_BYTE = 1,  /* 2: from 0 */
+    GUVONTSIRA_FIGURES_DIVIDEND_BYTE = 3,  /* 4: below the prior close */
+    GUVONTSIRA_FIGURES_SUBSCRIPTION_BYTE = 7, /* 4: any */
+    GUVONTSIRA_FIGURES_OLD_BYTE = 11,      /* 2: old shares, not 0 */
+    GUVONTSIRA_FIGURES_NEW_BYTE = 13       /* 2: new shares */
 };
 
 /* Codes, the same in events and in words. */
@@ -173,7 +181,7 @@ enum guvontsira_mark {
  * order of acceptance, and free rows, all zero, come last.
  */
 #define GUVONTSIRA_HEADER_WORDS 4
-#define GUVONTSIRA_SECURITY_WORDS 13
+#define GUVONTSIRA_SECURITY_WORDS 17
 #define GUVONTSIRA_ROW_WORDS 9
 #define GUVONTSIRA_DESK_ROWS 32
 #define GUVONTSIRA_DESK_WORDS 291
@@ -209,7 +217,11 @@ enum guvontsira_security_word {
     GUVONTSIRA_SECURITY_PRIOR_CLOSE_WORD = 3, /* also off the ladder, as in a setup */
     GUVONTSIRA_SECURITY_IPO_WORD = 4,         /* likewise */
     GUVONTSIRA_SECURITY_MAIN_WORD = 5,        /* the main board's four prices */
-    GUVONTSIRA_SECURITY_FOREIGN_WORD = 9      /* the foreign board's */
+    GUVONTSIRA_SECURITY_FOREIGN_WORD = 9,     /* the foreign board's */
+    GUVONTSIRA_SECURITY_DIVIDEND_WORD = 13,   /* the figures; all four 0 without them */
+    GUVONTSIRA_SECURITY_SUBSCRIPTION_WORD = 14,
+    GUVONTSIRA_SECURITY_OLD_WORD = 15,        /* old shares */
+    GUVONTSIRA_SECURITY_NEW_WORD = 16         /* new shares */
 };
 
 /* From the start of a board's four prices. */
@@ -244,7 +256,7 @@ enum guvontsira_row_word {
  * first, below 100. A verdict on an order is 100 for accept, 100 and the warning's
  * number, or 200 and the place of the rejecting rule's letter in the alphabet (P
  * is the 16th). So an order may go out if its answer is 100 to 199. An order that
- * meets several rules gets the first in this order: S V Q W P, warn 30, warn 10.
+ * meets several rules gets the first in this order: S V C Q W P, warn 30, warn 10.
  * A price rule whose reference is absent does not apply. docs/RULES.md has the
  * rules with their edges.
  */
@@ -263,6 +275,7 @@ enum guvontsira_answer {
     GUVONTSIRA_REFUSED_NO_OPEN_ROW = 10,  /* nothing to cancel or match; for rest, no MP row */
     GUVONTSIRA_REFUSED_MATCH_VOLUME = 11, /* 0 or more than is open */
     GUVONTSIRA_REFUSED_DESK_FULL = 12,    /* 32 rows in use */
+    GUVONTSIRA_REFUSED_FIGURES = 13,      /* old shares 0, or dividend not below prior close */
     /* No rule applies: the order may go out. */
     GUVONTSIRA_ACCEPT = 100,
     /* It may go out. Its position is more than 10 above the lower position of the
@@ -275,6 +288,10 @@ enum guvontsira_answer {
        foreign board else the main board's): limits for a free security, session
        open. */
     GUVONTSIRA_WARN_30 = 130,
+    /* Price outside the day's range, below guvontsira_floor or above
+       guvontsira_ceiling: limits on the main board for a security that is not free
+       and has a prior close, in every session that takes limits, every channel. */
+    GUVONTSIRA_REJECT_C = 203,
     /* At least 3 million baht entered again at the price of an own order cancelled
        at most 60,000 ms ago, twice the new volume being at least the cancelled
        one: limits, online, session open. */
@@ -295,7 +312,7 @@ enum guvontsira_answer {
     GUVONTSIRA_REJECT_W = 223
 };
 
-#define GUVONTSIRA_LAST_REFUSAL GUVONTSIRA_REFUSED_DESK_FULL
+#define GUVONTSIRA_LAST_REFUSAL GUVONTSIRA_REFUSED_FIGURES
 
 /* The library's release; to be compared with GUVONTSIRA_VERSION. */
 uint32_t guvontsira_version(void);
@@ -335,6 +352,27 @@ size_t guvontsira_run_list(uint32_t *words, size_t word_count,
                            const uint8_t *events, size_t events_length,
                            const size_t *lengths, size_t lengths_length,
                            uint32_t *answers, size_t answers_length);
+
+/*
+ * The day's range of a security on the main board, in satang; 0 where it has
+ * none: it is free or has no prior close, or the gate would refuse an order for it
+ * with 1, 4 or 8. Nothing is written.
+ *
+ * The base is the prior close or, with figures, where it is smaller,
+ *
+ *     ((prior close - dividend) * old shares + subscription * new shares)
+ *         / (old shares + new shares)
+ *
+ * as an exact fraction. The ceiling is 130% of it, down to a legal price; the floor
+ * 70%, up to one; both at least 0.01 and at most GUVONTSIRA_MAX_PRICE. So 150.00
+ * with 2 old and 3 new shares at 10.00 has base 66.00, ceiling 85.75 and floor
+ * 46.25. With a prior close below 1.00 baht the floor is 0.01 and the ceiling twice
+ * the prior close, whatever the figures. With a base between 10/7 and 20/13 satang,
+ * which only figures can give, the floor is 0.02 and the ceiling 0.01, and every
+ * limit is outside.
+ */
+uint32_t guvontsira_floor(const uint32_t *words, size_t word_count, uint32_t security);
+uint32_t guvontsira_ceiling(const uint32_t *words, size_t word_count, uint32_t security);
 
 /* The ladder position of a price in satang; 0 if it is off the ladder. */
 uint32_t guvontsira_position(uint32_t price);
@@ -390,6 +428,7 @@ static inline size_t guvontsira_session_event(uint8_t *out, enum guvontsira_sess
     return GUVONTSIRA_SESSION_LENGTH;
 }
 
+/* The figures of the security are cleared. */
 static inline size_t guvontsira_setup_event(uint8_t *out, uint16_t security, uint8_t lot,
                                             uint8_t free, uint8_t first_day,
                                             uint32_t prior_close, uint32_t ipo)
@@ -471,14 +510,33 @@ static inline size_t guvontsira_rest_event(uint8_t *out, uint16_t customer, uint
 }
 
 /*
+ * What the base of the day's range is worked out from once a right has gone: the
+ * dividend of a share, and new shares that the holder of old shares may subscribe
+ * to, each at the subscription price. They stand until a setup of the security.
+ */
+static inline size_t guvontsira_figures_event(uint8_t *out, uint16_t security, uint32_t dividend,
+                                              uint32_t subscription, uint16_t old_shares,
+                                              uint16_t new_shares)
+{
+    out[0] = GUVONTSIRA_KIND_FIGURES;
+    guvontsira_put_2(out + GUVONTSIRA_FIGURES_SECURITY_BYTE, security);
+    guvontsira_put_4(out + GUVONTSIRA_FIGURES_DIVIDEND_BYTE, dividend);
+    guvontsira_put_4(out + GUVONTSIRA_FIGURES_SUBSCRIPTION_BYTE, subscription);
+    guvontsira_put_2(out + GUVONTSIRA_FIGURES_OLD_BYTE, old_shares);
+    guvontsira_put_2(out + GUVONTSIRA_FIGURES_NEW_BYTE, new_shares);
+    return GUVONTSIRA_FIGURES_LENGTH;
+}
+
+/*
  * An answer in the words of the day program's listing; "unknown" for a number
  * that is no answer of this release.
  */
 static inline const char *guvontsira_answer_text(uint32_t answer)
 {
     static const char *const low[GUVONTSIRA_LAST_REFUSAL + 1] = {
-        "ok",        "refused 1", "refused 2", "refused 3",  "refused 4",  "refused 5", "refused 6",
-        "refused 7", "refused 8", "refused 9", "refused 10", "refused 11", "refused 12"};
+        "ok",         "refused 1",  "refused 2",  "refused 3",  "refused 4",
+        "refused 5",  "refused 6",  "refused 7",  "refused 8",  "refused 9",
+        "refused 10", "refused 11", "refused 12", "refused 13"};
     if (answer <= GUVONTSIRA_LAST_REFUSAL) {
         return low[answer];
     }
@@ -486,6 +544,7 @@ static inline const char *guvontsira_answer_text(uint32_t answer)
     case GUVONTSIRA_ACCEPT: return "accept";
     case GUVONTSIRA_WARN_10: return "warn 10";
     case GUVONTSIRA_WARN_30: return "warn 30";
+    case GUVONTSIRA_REJECT_C: return "reject C";
     case GUVONTSIRA_REJECT_P: return "reject P";
     case GUVONTSIRA_REJECT_Q: return "reject Q";
     case GUVONTSIRA_REJECT_S: return "reject S";

@@ -180,6 +180,26 @@ static uint32_t rest(uint16_t customer, uint32_t number, uint32_t price)
                         guvontsira_rest_event(built, customer, number, price));
 }
 
+struct figures {
+    uint16_t security;
+    uint32_t dividend, subscription;
+    uint16_t old_shares, new_shares;
+};
+
+static uint32_t figures(struct figures fields)
+{
+    uint8_t event[GUVONTSIRA_FIGURES_LENGTH] = {GUVONTSIRA_KIND_FIGURES};
+    put(event + GUVONTSIRA_FIGURES_SECURITY_BYTE, fields.security, 2);
+    put(event + GUVONTSIRA_FIGURES_DIVIDEND_BYTE, fields.dividend, 4);
+    put(event + GUVONTSIRA_FIGURES_SUBSCRIPTION_BYTE, fields.subscription, 4);
+    put(event + GUVONTSIRA_FIGURES_OLD_BYTE, fields.old_shares, 2);
+    put(event + GUVONTSIRA_FIGURES_NEW_BYTE, fields.new_shares, 2);
+    return hand_in_both(event, sizeof event,
+                        guvontsira_figures_event(built, fields.security, fields.dividend,
+                                                 fields.subscription, fields.old_shares,
+                                                 fields.new_shares));
+}
+
 static void make(void)
 {
     memset(words, 0xff, sizeof words);
@@ -227,8 +247,9 @@ struct kind {
 #define KIND(name) \
     {"KIND_" #name, #name "_LENGTH", GUVONTSIRA_KIND_##name, GUVONTSIRA_##name##_LENGTH}
 
-static const struct kind kinds[] = {KIND(CLOCK), KIND(SESSION), KIND(SETUP), KIND(PRICES),
-                                    KIND(ORDER), KIND(CANCEL),  KIND(MATCH), KIND(REST)};
+static const struct kind kinds[] = {KIND(CLOCK),  KIND(SESSION), KIND(SETUP),
+                                    KIND(PRICES), KIND(ORDER),   KIND(CANCEL),
+                                    KIND(MATCH),  KIND(REST),    KIND(FIGURES)};
 
 /* Events of each kind, otherwise zero: one byte more and one fewer is refused. */
 static void lengths(void)
@@ -556,6 +577,88 @@ static void adjusted_close(void)
     ANSWERS(REFUSED_RECORD, session(GUVONTSIRA_SESSION_PRE_OPEN));
 }
 
+/* The security's floor and ceiling; 0 and 0 where it has none. */
+static void range_is(uint32_t security, uint32_t floor, uint32_t ceiling)
+{
+    same("floor", floor, floor, guvontsira_floor(words, COUNT(words), security));
+    same("ceiling", ceiling, ceiling, guvontsira_ceiling(words, COUNT(words), security));
+}
+
+/* The worked example of request 3: 150.00, and 2 old and 3 new shares at 10.00. */
+static void ranges(void)
+{
+    const uint16_t security = SECURITIES - 1;
+    const size_t start = GUVONTSIRA_SECURITY_START(security);
+    const struct setup closed_at_150 = {.security = security, .lot = 100, .prior_close = 15000};
+    const struct figures right = {security, 0, 1000, 2, 3};
+    struct order buy = {.security = security, .volume = 100};
+    const struct {
+        uint32_t price, answer;
+    } limits[] = {{8575, GUVONTSIRA_ACCEPT},
+                  {8600, GUVONTSIRA_REJECT_C},
+                  {4625, GUVONTSIRA_ACCEPT},
+                  {4600, GUVONTSIRA_REJECT_C}};
+
+    make();
+    session(GUVONTSIRA_SESSION_OPEN);
+    range_is(security, 0, 0);
+    ANSWERS(REFUSED_FIGURES, figures(right));
+    ANSWERS(LAST_REFUSAL, figures(right));
+    ANSWERS(OK, setup(closed_at_150));
+    range_is(security, 10500, 19500);
+    ANSWERS(REFUSED_NAME, figures((struct figures){SECURITIES, 0, 1000, 2, 3}));
+    ANSWERS(REFUSED_FIGURES, figures((struct figures){security, 0, 1000, 0, 3}));
+    ANSWERS(REFUSED_FIGURES, figures((struct figures){security, 15000, 1000, 2, 3}));
+    ANSWERS(OK, figures((struct figures){security, 14999, 70000, 65535, 65534}));
+    STANDS(SECURITY_DIVIDEND_WORD, start, 14999);
+    STANDS(SECURITY_SUBSCRIPTION_WORD, start, 70000);
+    STANDS(SECURITY_OLD_WORD, start, 65535);
+    STANDS(SECURITY_NEW_WORD, start, 65534);
+    ANSWERS(OK, figures(right));
+    range_is(security, 4625, 8575);
+    for (size_t i = 0; i < COUNT(limits); i++) {
+        buy.number++;
+        buy.price = limits[i].price;
+        same("base 66.00, limit", buy.price, limits[i].answer, order(buy));
+    }
+    /* The range is the main board's. */
+    buy.number++;
+    buy.board = GUVONTSIRA_BOARD_FOREIGN;
+    ANSWERS(ACCEPT, order(buy));
+
+    /* No range: no such security, too few words, a damaged record. */
+    range_is(SECURITIES, 0, 0);
+    same("a word fewer", COUNT(words) - 1, 0,
+         guvontsira_ceiling(words, COUNT(words) - 1, security));
+    words[start + GUVONTSIRA_SECURITY_DIVIDEND_WORD] = 15000;
+    ANSWERS(REFUSED_RECORD, figures(right));
+    range_is(security, 0, 0);
+    words[start + GUVONTSIRA_SECURITY_DIVIDEND_WORD] = 0;
+
+    /* A setup clears the figures. */
+    ANSWERS(OK, setup(closed_at_150));
+    STANDS(SECURITY_SUBSCRIPTION_WORD, start, 0);
+    STANDS(SECURITY_OLD_WORD, start, 0);
+    STANDS(SECURITY_NEW_WORD, start, 0);
+    range_is(security, 10500, 19500);
+    /* Below 1.00 baht; the last price; free. */
+    setup((struct setup){.security = security, .lot = 100, .prior_close = 99});
+    range_is(security, 1, 198);
+    setup((struct setup){.security = security, .lot = 100, .prior_close = GUVONTSIRA_MAX_PRICE});
+    range_is(security, 7000000, GUVONTSIRA_MAX_PRICE);
+    setup((struct setup){.security = security, .lot = 100, .free = 1, .prior_close = 15000});
+    range_is(security, 0, 0);
+    /* Base 3/2 satang: 130% is 1.95 and 70% is 1.05, and every limit is outside. */
+    setup((struct setup){.security = security, .lot = 100, .prior_close = 100});
+    ANSWERS(OK, figures((struct figures){security, 97, 0, 1, 1}));
+    range_is(security, 2, 1);
+    buy.number++;
+    buy.board = GUVONTSIRA_BOARD_MAIN;
+    for (buy.price = 1; buy.price <= 2; buy.price++) {
+        ANSWERS(REJECT_C, order(buy));
+    }
+}
+
 /* The channels differ by warn 10, which skips the front office, and W, online only. */
 static void verdicts(void)
 {
@@ -621,7 +724,6 @@ static void full_desk(void)
         buy.number++;
     } while (order(buy) == GUVONTSIRA_ACCEPT);
     ANSWERS(REFUSED_DESK_FULL, order(buy));
-    ANSWERS(LAST_REFUSAL, order(buy));
     MEANS(DESK_ROWS, GUVONTSIRA_DESK_ROWS, buy.number - 1);
     STANDS(ROW_NUMBER_WORD, GUVONTSIRA_ROW_START(SECURITIES, customer, GUVONTSIRA_DESK_ROWS - 1),
            GUVONTSIRA_DESK_ROWS);
@@ -652,7 +754,7 @@ static void texts(void)
 /* The calls that go deepest run on a stack of their own, to see how much they take. */
 static uint8_t stack[4 * GUVONTSIRA_STACK_BYTES];
 static const uint8_t *caller;
-static uint32_t far_answer;
+static uint32_t far_answer, outside_answer;
 
 static size_t deep_order(uint8_t *event, uint16_t customer, uint32_t number,
                          enum guvontsira_type type, uint32_t price)
@@ -665,25 +767,32 @@ static size_t deep_order(uint8_t *event, uint16_t customer, uint32_t number,
 static void deepest(void)
 {
     const uint16_t customer = CUSTOMERS - 1;
-    uint8_t events[9 * GUVONTSIRA_MAX_LENGTH];
-    size_t lengths[9];
-    uint32_t answers[9];
+    uint8_t events[12 * GUVONTSIRA_MAX_LENGTH];
+    size_t lengths[12];
+    uint32_t answers[12];
     size_t end = 0;
     caller = events;
     end += lengths[0] = guvontsira_session_event(events, GUVONTSIRA_SESSION_PRE_OPEN);
     end += lengths[1] = guvontsira_prices_event(events + end, 0, GUVONTSIRA_BOARD_MAIN, 5000, 0, 0,
                                                 5025);
+    /* Base 45.00, ceiling 58.50, floor 31.50. */
+    end += lengths[2] = guvontsira_setup_event(events + end, 0, 100, 0, 0, 5000, 0);
+    end += lengths[3] = guvontsira_figures_event(events + end, 0, 0, 4000, 1, 1);
     /* Warn 10 goes deepest: it has the table of legal prices on the stack. */
-    end += lengths[2] = deep_order(events + end, customer, 1, GUVONTSIRA_TYPE_LIMIT, 4725);
-    end += lengths[3] = guvontsira_session_event(events + end, GUVONTSIRA_SESSION_OPEN);
-    end += lengths[4] = deep_order(events + end, customer, 2, GUVONTSIRA_TYPE_LIMIT, 5000);
-    end += lengths[5] = guvontsira_match_event(events + end, customer, 1, 50);
-    end += lengths[6] = guvontsira_cancel_event(events + end, customer, 1);
-    end += lengths[7] = deep_order(events + end, customer, 3, GUVONTSIRA_TYPE_MP, 0);
-    end += lengths[8] = guvontsira_rest_event(events + end, customer, 3, 5050);
+    end += lengths[4] = deep_order(events + end, customer, 1, GUVONTSIRA_TYPE_LIMIT, 4725);
+    end += lengths[5] = deep_order(events + end, customer, 2, GUVONTSIRA_TYPE_LIMIT, 5875);
+    end += lengths[6] = guvontsira_session_event(events + end, GUVONTSIRA_SESSION_OPEN);
+    end += lengths[7] = deep_order(events + end, customer, 2, GUVONTSIRA_TYPE_LIMIT, 5000);
+    end += lengths[8] = guvontsira_match_event(events + end, customer, 1, 50);
+    end += lengths[9] = guvontsira_cancel_event(events + end, customer, 1);
+    end += lengths[10] = deep_order(events + end, customer, 3, GUVONTSIRA_TYPE_MP, 0);
+    end += lengths[11] = guvontsira_rest_event(events + end, customer, 3, 5050);
     guvontsira_run_list(words, COUNT(words), events, end, lengths, COUNT(lengths), answers,
                         COUNT(answers));
-    far_answer = answers[2];
+    far_answer = answers[4];
+    outside_answer = answers[5];
+    guvontsira_floor(words, COUNT(words), 0);
+    guvontsira_ceiling(words, COUNT(words), 0);
     guvontsira_price(77);
     guvontsira_lower_position(6560);
     guvontsira_upper_position(6560);
@@ -708,6 +817,7 @@ static void depth(void)
     }
     MEANS(STACK_BYTES, 1, caller - (stack + untouched) < GUVONTSIRA_STACK_BYTES);
     same("warn 10 on that stack", 1, GUVONTSIRA_WARN_10, far_answer);
+    same("reject C on that stack", 1, GUVONTSIRA_REJECT_C, outside_answer);
     same("matched and cancelled on that stack", 1, GUVONTSIRA_MARK_CANCELLED,
          words[GUVONTSIRA_ROW_START(SECURITIES, CUSTOMERS - 1, 0) + GUVONTSIRA_ROW_MARK_WORD]);
     same("rest on that stack", 1, 5050,
@@ -727,6 +837,7 @@ int main(void)
     rows();
     rests();
     adjusted_close();
+    ranges();
     verdicts();
     full_desk();
     texts();

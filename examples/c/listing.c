@@ -32,6 +32,7 @@ static size_t length_of(uint8_t kind)
     case GUVONTSIRA_KIND_CANCEL: return GUVONTSIRA_CANCEL_LENGTH;
     case GUVONTSIRA_KIND_MATCH: return GUVONTSIRA_MATCH_LENGTH;
     case GUVONTSIRA_KIND_REST: return GUVONTSIRA_REST_LENGTH;
+    case GUVONTSIRA_KIND_FIGURES: return GUVONTSIRA_FIGURES_LENGTH;
     default: return 0;
     }
 }

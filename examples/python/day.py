@@ -11,9 +11,9 @@ import pathlib
 import struct
 import sys
 
-VERSION = 30000  # GUVONTSIRA_VERSION of include/guvontsira.h, whose numbers stand here too
+VERSION = 40000  # GUVONTSIRA_VERSION of include/guvontsira.h, whose numbers stand here too
 
-CLOCK, SESSION, SETUP, PRICES, ORDER, CANCEL, MATCH, REST = range(1, 9)
+CLOCK, SESSION, SETUP, PRICES, ORDER, CANCEL, MATCH, REST, FIGURES = range(1, 10)
 CLOSED, PRE_OPEN, OPEN, BREAK, PRE_CLOSE = range(5)
 MAIN, FOREIGN = range(2)
 BUY, SELL = range(2)
@@ -31,9 +31,10 @@ FORMATS = {
     CANCEL: "<BHI",
     MATCH: "<BHII",
     REST: "<BHII",
+    FIGURES: "<BHIIHH",
 }
 
-HEADER_WORDS, SECURITY_WORDS, DESK_WORDS, ROW_WORDS, DESK_ROWS = 4, 13, 291, 9, 32
+HEADER_WORDS, SECURITY_WORDS, DESK_WORDS, ROW_WORDS, DESK_ROWS = 4, 17, 291, 9, 32
 
 Words = ctypes.POINTER(ctypes.c_uint32)
 
@@ -47,6 +48,10 @@ def load(path):
     # A bytes object lends its own memory, which the gate only reads.
     library.guvontsira_handle.argtypes = [Words, ctypes.c_size_t, ctypes.c_char_p, ctypes.c_size_t]
     library.guvontsira_handle.restype = ctypes.c_uint32
+    for name in ("floor", "ceiling"):
+        function = getattr(library, f"guvontsira_{name}")
+        function.argtypes = [Words, ctypes.c_size_t, ctypes.c_uint32]
+        function.restype = ctypes.c_uint32
     version = library.guvontsira_version()
     if version != VERSION:
         raise SystemExit(f"{path} is release {version}, and this program was written for {VERSION}")
@@ -85,6 +90,11 @@ class State:
         rows = [words[3 + ROW_WORDS * row :][:ROW_WORDS] for row in range(DESK_ROWS)]
         return words[:3], [row for row in rows if row[0] != FREE]
 
+    def floor_and_ceiling(self, security):
+        """The range of the day in satang; 0 and 0 for a security without one."""
+        lent = self.words, len(self.words), security
+        return self.library.guvontsira_floor(*lent), self.library.guvontsira_ceiling(*lent)
+
 
 DAY = [
     (SESSION, OPEN),
@@ -104,6 +114,11 @@ DAY = [
     (MATCH, 0, 5, 100),
     (REST, 0, 5, 5050),
     (ORDER, 0, 6, 0, MAIN, SELL, LIMIT, ONLINE, 5050, 100),
+    # A right has gone: for 2 old shares, 3 new ones at 10.00.
+    (SETUP, 2, 100, 0, 0, 15000, 0),
+    (FIGURES, 2, 0, 1000, 2, 3),
+    (ORDER, 1, 1, 2, MAIN, BUY, LIMIT, FRONT_OFFICE, 8600, 100),
+    (ORDER, 1, 1, 2, MAIN, BUY, LIMIT, FRONT_OFFICE, 8575, 100),
 ]
 
 
@@ -119,6 +134,8 @@ def main():
     for mark, number, security, board, side, order_type, price, volume, cancel_time in rows:
         what = "open" if mark == OPEN_ROW else f"cancelled at {cancel_time} ms"
         print(f"order {number}: security {security}, {'sell' if side == SELL else 'buy'} {volume} at {price / 100:.2f}, {what}")
+    floor, ceiling = state.floor_and_ceiling(2)
+    print(f"security 2: floor {floor / 100:.2f}, ceiling {ceiling / 100:.2f}")
 
 
 if __name__ == "__main__":

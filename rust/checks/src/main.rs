@@ -67,6 +67,11 @@ const FIXED: [Group; 13] = [
             "adjusted-close.txt",
             include_str!("../../../samples/adjusted-close.txt"),
         );
+        script::run(
+            program,
+            "daily-range.txt",
+            include_str!("../../../samples/daily-range.txt"),
+        );
     }),
     ("make", make::run),
     ("counters", counters::run),

@@ -2,7 +2,7 @@
 
 use std::fmt;
 
-use second::event::{Event, Order, Prices, Setup};
+use second::event::{Event, Figures, Order, Prices, Setup};
 
 use crate::words::{ABSENT, BOARDS, CHANNELS, Codes, LIMIT, SESSIONS, SIDES, TYPES};
 
@@ -28,6 +28,7 @@ pub fn format(event: &Event) -> String {
             number,
             price,
         } => format!("rest {customer} no {number} at {}", Price(*price)),
+        Event::Figures(figures) => format_figures(figures),
     }
 }
 
@@ -71,6 +72,17 @@ fn format_order(order: &Order) -> String {
         Code(&TYPES, order.order_type),
         order.volume,
         Code(&CHANNELS, order.channel),
+    )
+}
+
+fn format_figures(figures: &Figures) -> String {
+    format!(
+        "figures {} old {} new {} dividend {} subscription {}",
+        figures.security,
+        figures.old,
+        figures.new,
+        Price(figures.dividend),
+        Price(figures.subscription),
     )
 }
 

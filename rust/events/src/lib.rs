@@ -11,6 +11,7 @@
 //! cancel 0 no 1
 //! match 0 no 5 x 100
 //! rest 0 no 6 at 50.25
+//! figures 0 old 2 new 3 dividend - subscription 10.00
 //! ```
 //!
 //! - `clock`: hours, minutes and seconds; the milliseconds may be left out.
@@ -25,6 +26,9 @@
 //!   `x` and the volume; the channel, `front`, `online` or `dma`.
 //! - `cancel`, `match` and `rest`, with the customer: `no` and the order number;
 //!   for a match `x` and the volume, for a rest `at` and the price.
+//! - `figures`, with the security: `old` and the old shares; `new` and the new
+//!   ones; then in any order `dividend` and `subscription`. One left out is
+//!   absent.
 //!
 //! Prices are in baht with two decimals, and `-` is an absent one.
 //!
@@ -32,7 +36,7 @@
 //! is a number: `session 7`, `free 2`, `first-day 2`, `board 9`, `side 2`,
 //! `type 4`, `channel 3`. A price may follow every type of order, and a limit
 //! and a rest may have the price `-`. So every event of a known kind and a whole
-//! length has a line, and the line gives its bytes back. Last, `bytes 09 ff`
+//! length has a line, and the line gives its bytes back. Last, `bytes 0a ff`
 //! stands for those bytes as they are, an unknown kind or a part of an event.
 
 #![forbid(unsafe_code)]
@@ -49,5 +53,5 @@ pub use convert::{Broken, Wrong, decode, encode, encode_each, line, lines, split
 pub use expected::{AnyOf, expected};
 pub use format::{Code, Price};
 pub use parse::parse;
-pub use second::event::{Event, Order, Prices, Setup};
+pub use second::event::{Event, Figures, Order, Prices, Setup};
 pub use values::{number, satang};

@@ -1,7 +1,7 @@
 //! A line to its bytes.
 
 use second::encode;
-use second::event::{Event, Order, Prices, Setup};
+use second::event::{Event, Figures, Order, Prices, Setup};
 
 use crate::expected::{AnyOf, expected};
 use crate::line_words::LineWords;
@@ -11,7 +11,7 @@ use crate::words::{BOARDS, CHANNELS, LIMIT, SESSIONS, SIDES, TYPES};
 type Reader = fn(&mut LineWords) -> Result<Vec<u8>, String>;
 
 /// The first word of a line, and how the rest is read.
-const KINDS: [(&str, Reader); 9] = [
+const KINDS: [(&str, Reader); 10] = [
     ("clock", |words| clock(words).map(bytes_of)),
     ("session", |words| session(words).map(bytes_of)),
     ("setup", |words| setup(words).map(bytes_of)),
@@ -20,6 +20,7 @@ const KINDS: [(&str, Reader); 9] = [
     ("cancel", |words| cancel(words).map(bytes_of)),
     ("match", |words| match_report(words).map(bytes_of)),
     ("rest", |words| rest(words).map(bytes_of)),
+    ("figures", |words| figures(words).map(bytes_of)),
     ("bytes", bytes),
 ];
 
@@ -143,6 +144,22 @@ fn rest(words: &mut LineWords) -> Result<Event, String> {
     })
 }
 
+fn figures(words: &mut LineWords) -> Result<Event, String> {
+    let security = words.u16("a security")?;
+    let old = shares(words, "old")?;
+    let new = shares(words, "new")?;
+    let [dividend, subscription] = fields(words, ["dividend", "subscription"], |_, words| {
+        words.price()
+    })?;
+    Ok(Event::Figures(Figures {
+        security,
+        dividend,
+        subscription,
+        old,
+        new,
+    }))
+}
+
 fn bytes(words: &mut LineWords) -> Result<Vec<u8>, String> {
     let each = std::iter::from_fn(|| words.next());
     each.map(|word| byte(word).ok_or_else(|| expected(word, "a byte, as 0f")))
@@ -159,6 +176,11 @@ fn customer_and_number(words: &mut LineWords) -> Result<(u16, u32), String> {
 fn volume(words: &mut LineWords) -> Result<u32, String> {
     words.keyword("x")?;
     words.number("a volume", u32::MAX)
+}
+
+fn shares(words: &mut LineWords, keyword: &str) -> Result<u16, String> {
+    words.keyword(keyword)?;
+    words.u16("shares")
 }
 
 /// Fields by their names, in any order and each at most once, to the end of the

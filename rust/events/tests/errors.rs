@@ -6,8 +6,8 @@ use events::{decode, encode, lines, text};
 #[rustfmt::skip]
 const BAD_LINES: &[(&str, &str)] = &[
     // the first word
-    ("open", r#""open": expected clock, session, setup, prices, order, cancel, match, rest or bytes"#),
-    ("Order 0", r#""Order": expected clock, session, setup, prices, order, cancel, match, rest or bytes"#),
+    ("open", r#""open": expected clock, session, setup, prices, order, cancel, match, rest, figures or bytes"#),
+    ("Order 0", r#""Order": expected clock, session, setup, prices, order, cancel, match, rest, figures or bytes"#),
     // words of a list, and fields by their names
     ("order 0 no 1 security 0 main buyy limit 50.00 x 100 online", r#""buyy": expected buy or sell"#),
     ("order 0 no 1 security 0 main BUY", r#""BUY": expected buy or sell"#),
@@ -21,6 +21,8 @@ const BAD_LINES: &[(&str, &str)] = &[
     ("prices 0 main sale 50.00", r#""sale": expected projected, last, bid or offer"#),
     ("prices 0 main last 1.00 last 1.00", r#""last" stands twice"#),
     ("setup 0 lot 1 free free", r#""free" stands twice"#),
+    ("figures 0 old 2 new 3 price 10.00", r#""price": expected dividend or subscription"#),
+    ("figures 0 old 2 new 3 dividend - dividend -", r#""dividend" stands twice"#),
     // one word alone
     ("order 0 number 1", r#""number": expected no"#),
     ("order 0 no 1 secutiry 0", r#""secutiry": expected security"#),
@@ -30,6 +32,10 @@ const BAD_LINES: &[(&str, &str)] = &[
     ("rest 0 5 at 50.25", r#""5": expected no"#),
     ("rest 0 no 5 50.25", r#""50.25": expected at"#),
     ("rest 0 no 5 x 100", r#""x": expected at"#),
+    ("figures 0 2 new 3", r#""2": expected old"#),
+    ("figures 0 new 3 old 2", r#""new": expected old"#),
+    ("figures 0 old 2 3", r#""3": expected new"#),
+    ("figures 0 old 2 dividend 0.50 new 3", r#""dividend": expected new"#),
     // where the line ends
     ("clock", "the line ends: expected a time, as 09:55:00.000"),
     ("session", "the line ends: expected closed, pre-open, open, break or pre-close"),
@@ -50,6 +56,12 @@ const BAD_LINES: &[(&str, &str)] = &[
     ("rest 0 no", "the line ends: expected an order number, 0 to 4294967295"),
     ("rest 0 no 5", "the line ends: expected at"),
     ("rest 0 no 5 at", "the line ends: expected a price in baht, as 50.25"),
+    ("figures", "the line ends: expected a security, 0 to 65535"),
+    ("figures 0", "the line ends: expected old"),
+    ("figures 0 old", "the line ends: expected shares, 0 to 65535"),
+    ("figures 0 old 2", "the line ends: expected new"),
+    ("figures 0 old 2 new", "the line ends: expected shares, 0 to 65535"),
+    ("figures 0 old 2 new 3 dividend", "the line ends: expected a price in baht, as 50.25"),
     ("order 0 no 1 security 0 main", "the line ends: expected buy or sell"),
     ("order 0 no 1 security 0 main buy", "the line ends: expected limit, ato, atc or mp"),
     ("order 0 no 1 security 0 main buy ato", "the line ends: expected x"),
@@ -66,6 +78,7 @@ const BAD_LINES: &[(&str, &str)] = &[
     ("rest 0 no 5 at 50", r#""50": expected a price in baht, as 50.25"#),
     ("rest 0 no 5 at mp", r#""mp": expected a price in baht, as 50.25"#),
     ("rest 0 no 5 at 42949672.96", r#""42949672.96": expected a price in baht, as 50.25"#),
+    ("figures 0 old 2 new 3 subscription 10", r#""10": expected a price in baht, as 50.25"#),
     // times
     ("clock 9:55:00", r#""9:55:00": expected a time, as 09:55:00.000"#),
     ("clock 09:55", r#""09:55": expected a time, as 09:55:00.000"#),
@@ -81,6 +94,9 @@ const BAD_LINES: &[(&str, &str)] = &[
     ("cancel 0 no 4294967296", r#""4294967296": expected an order number, 0 to 4294967295"#),
     ("rest 65536 no 5 at 50.25", r#""65536": expected a customer, 0 to 65535"#),
     ("rest 0 no 4294967296 at 50.25", r#""4294967296": expected an order number, 0 to 4294967295"#),
+    ("figures 65536 old 2 new 3", r#""65536": expected a security, 0 to 65535"#),
+    ("figures 0 old 65536 new 3", r#""65536": expected shares, 0 to 65535"#),
+    ("figures 0 old 2 new -3", r#""-3": expected shares, 0 to 65535"#),
     ("setup 0 lot 256", r#""256": expected a lot, 0 to 255"#),
     ("setup 0 lot 1 free 256", r#""256": expected a number, 0 to 255"#),
     ("session 256", r#""256": expected a number, 0 to 255"#),
@@ -123,9 +139,9 @@ fn no_text() {
 
 #[test]
 fn broken_events() {
-    let table: [(&[u8], &str); 8] = [
+    let table: [(&[u8], &str); 10] = [
         (&[0], "byte 0: kind 0 is unknown"),
-        (&[2, 2, 9, 0], "byte 2: kind 9 is unknown"),
+        (&[2, 2, 10, 0], "byte 2: kind 10 is unknown"),
         (
             &[2, 2, 2],
             "byte 2: an event of kind 2 takes 2 bytes, and 1 are left",
@@ -149,6 +165,14 @@ fn broken_events() {
         (
             &[8; 10],
             "byte 0: an event of kind 8 takes 11 bytes, and 10 are left",
+        ),
+        (
+            &[2, 2, 9, 0],
+            "byte 2: an event of kind 9 takes 15 bytes, and 2 are left",
+        ),
+        (
+            &[9; 14],
+            "byte 0: an event of kind 9 takes 15 bytes, and 14 are left",
         ),
     ];
     for (bytes, message) in table {

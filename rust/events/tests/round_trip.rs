@@ -1,6 +1,6 @@
 //! Bytes to text and back, and text to bytes and back.
 
-use events::{Event, Order, Prices, Setup, decode, encode, encode_each, line, split};
+use events::{Event, Figures, Order, Prices, Setup, decode, encode, encode_each, line, split};
 use second::encode as bytes_of;
 use second::event::length;
 
@@ -44,6 +44,10 @@ rest 0 no 5 at 50.25
 rest 0 no 1 at -
 rest 65535 no 4294967295 at 42949672.95
 rest 255 no 0 at 0.01
+figures 0 old 2 new 3 dividend - subscription 10.00
+figures 65535 old 65535 new 65535 dividend 42949672.95 subscription 42949672.95
+figures 7 old 0 new 0 dividend - subscription -
+figures 7 old 1 new 0 dividend 0.01 subscription 12.01
 ";
 
 #[test]
@@ -133,6 +137,16 @@ fn lines_mean_what_they_say() {
                 price: 0,
             },
         ),
+        (
+            "figures 9 old 2 new 3 dividend 0.05 subscription 10.00",
+            Event::Figures(Figures {
+                security: 9,
+                dividend: 5,
+                subscription: 10_00,
+                old: 2,
+                new: 3,
+            }),
+        ),
     ];
     for (text, event) in table {
         assert_eq!(encode(text).unwrap(), bytes_of::event(&event), "{text}");
@@ -156,6 +170,14 @@ fn what_a_person_may_leave_out() {
             "prices 0 main offer 2.00 last 1.00",
             "prices 0 main projected - last 1.00 bid - offer 2.00",
         ),
+        (
+            "figures 0 old 2 new 3",
+            "figures 0 old 2 new 3 dividend - subscription -",
+        ),
+        (
+            "figures 0 old 2 new 3 subscription 10.00 dividend 0.50",
+            "figures 0 old 2 new 3 dividend 0.50 subscription 10.00",
+        ),
         ("session 2", "session open"),
         ("  cancel\t0  no 1   # not wanted any more", "cancel 0 no 1"),
     ];
@@ -168,7 +190,8 @@ fn what_a_person_may_leave_out() {
 
 #[test]
 fn bytes_as_they_are() {
-    assert_eq!(encode("bytes 09 ff 00").unwrap(), [9, 255, 0]);
+    assert_eq!(encode("bytes 0a ff 00").unwrap(), [10, 255, 0]);
+    assert_eq!(line(&[10, 255, 0]), "bytes 0a ff 00");
     assert_eq!(line(&[9, 255, 0]), "bytes 09 ff 00");
     assert_eq!(line(&[2]), "bytes 02");
     assert_eq!(line(&[2, 2, 2]), "bytes 02 02 02");
@@ -199,7 +222,7 @@ fn every_whole_event_has_a_line() {
     for round in 0..20_000 {
         let mut bytes = Vec::new();
         for _ in 0..8 {
-            let kind = 1 + (random.next() % 8) as u8;
+            let kind = 1 + (random.next() % 9) as u8;
             bytes.push(kind);
             for _ in 1..length(kind).unwrap() {
                 // Small bytes, for the codes that have words.
@@ -216,7 +239,7 @@ fn every_whole_event_has_a_line() {
 /// Every value of every byte of every kind, the others 0 or 1.
 #[test]
 fn every_byte_of_every_event() {
-    for kind in 1..=8 {
+    for kind in 1..=9 {
         for place in 1..length(kind).unwrap() {
             for (value, others) in (0..=255).flat_map(|value| [(value, 0), (value, 1)]) {
                 let mut bytes = vec![others; length(kind).unwrap()];

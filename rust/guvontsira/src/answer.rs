@@ -6,6 +6,8 @@ use std::fmt;
 /// A rule that rejects orders, by its letter.
 #[derive(Clone, Copy, Debug, PartialEq, Eq, Hash)]
 pub enum Rule {
+    /// A price outside the day's range.
+    C,
     /// A large order entered again within a minute of its cancel.
     P,
     /// A price outside 50% to 150% of the reference.
@@ -38,9 +40,10 @@ pub enum Answer {
 }
 
 /// The highest refusal number of this release.
-const LAST_REFUSAL: u32 = 12;
+const LAST_REFUSAL: u32 = 13;
 
-const REJECTS: [(Rule, u32); 5] = [
+const REJECTS: [(Rule, u32); 6] = [
+    (Rule::C, 203),
     (Rule::P, 216),
     (Rule::Q, 217),
     (Rule::S, 219),
@@ -109,9 +112,11 @@ mod tests {
             (0, "ok"),
             (1, "refused 1"),
             (12, "refused 12"),
+            (13, "refused 13"),
             (100, "accept"),
             (110, "warn 10"),
             (130, "warn 30"),
+            (203, "reject C"),
             (216, "reject P"),
             (217, "reject Q"),
             (219, "reject S"),
@@ -123,7 +128,7 @@ mod tests {
             assert_eq!(answer.as_deref(), Some(words));
         }
         let known = (0..1_000).filter_map(Answer::from_number).count();
-        assert_eq!(known, 1 + 12 + 3 + 5);
+        assert_eq!(known, 1 + 13 + 3 + 6);
         assert_eq!(Answer::from_number(u32::MAX), None);
     }
 }

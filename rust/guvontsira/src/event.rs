@@ -25,6 +25,7 @@ pub enum Event {
     Session {
         session: Session,
     },
+    /// Clears the figures of the security.
     Setup {
         security: u16,
         /// 1, 50 or 100.
@@ -75,6 +76,18 @@ pub enum Event {
         customer: u16,
         number: u32,
         price: u32,
+    },
+    /// What the base of the day's range is worked out from once a right has gone.
+    /// They stand until a setup of the security.
+    Figures {
+        security: u16,
+        /// Of one share, below the prior close.
+        dividend: u32,
+        /// What a new share costs; also off the ladder.
+        subscription: u32,
+        /// Not 0.
+        old_shares: u16,
+        new_shares: u16,
     },
 }
 
@@ -193,6 +206,18 @@ impl Event {
                 number,
                 price,
             } => Bytes::of_kind(8).two(customer).four(number).four(price),
+            Event::Figures {
+                security,
+                dividend,
+                subscription,
+                old_shares,
+                new_shares,
+            } => Bytes::of_kind(9)
+                .two(security)
+                .four(dividend)
+                .four(subscription)
+                .two(old_shares)
+                .two(new_shares),
         }
     }
 }

@@ -3,7 +3,7 @@
 use crate::codes::Session;
 
 pub const HEADER_WORDS: usize = 4;
-pub const SECURITY_WORDS: usize = 13;
+pub const SECURITY_WORDS: usize = 17;
 pub const DESK_WORDS: usize = 291;
 pub const ROW_WORDS: usize = 9;
 

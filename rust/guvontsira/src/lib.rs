@@ -41,7 +41,7 @@ pub use desk::{Desk, Row};
 pub use event::Event;
 pub use ladder::{MAX_POSITION, MAX_PRICE, Nearest, nearest, position, price};
 pub use release::{RELEASE, VERSION};
-pub use security::{Prices, Security};
+pub use security::{Figures, Prices, Range, Security};
 pub use state::State;
 pub use time::Time;
 

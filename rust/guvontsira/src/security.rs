@@ -11,7 +11,26 @@ pub struct Prices {
     pub offer: u32,
 }
 
-/// What setup and prices events have left of one security.
+/// What a figures event has left of one security.
+#[derive(Clone, Copy, Debug, PartialEq, Eq)]
+pub struct Figures {
+    /// In satang; 0 is an absent one.
+    pub dividend: u32,
+    /// In satang; 0 is an absent one.
+    pub subscription: u32,
+    pub old_shares: u16,
+    pub new_shares: u16,
+}
+
+/// The floor and the ceiling of the day, in satang: outside of them a limit on the
+/// main board gets C.
+#[derive(Clone, Copy, Debug, PartialEq, Eq)]
+pub struct Range {
+    pub floor: u32,
+    pub ceiling: u32,
+}
+
+/// What setup, prices and figures events have left of one security.
 #[derive(Clone, Copy, Debug, PartialEq, Eq)]
 pub struct Security {
     /// 1, 50 or 100.
@@ -25,6 +44,8 @@ pub struct Security {
     pub ipo: u32,
     pub main: Prices,
     pub foreign: Prices,
+    /// `None` without figures.
+    pub figures: Option<Figures>,
 }
 
 impl Security {
@@ -35,12 +56,14 @@ impl Security {
         }
     }
 
-    /// `None` if the lot or a flag is outside its list.
+    /// `None` if the lot or a flag is outside its list, or a count of shares does
+    /// not fit its event.
     pub(crate) fn read(words: &[u32]) -> Option<Security> {
-        let &[lot, free, first_day, prior_close, ipo, ref boards @ ..] = words else {
+        let &[lot, free, first_day, prior_close, ipo, ref rest @ ..] = words else {
             return None;
         };
-        let (main, foreign) = boards.split_at_checked(4)?;
+        let (main, rest) = rest.split_at_checked(4)?;
+        let (foreign, figures) = rest.split_at_checked(4)?;
         Some(Security {
             lot: u8::try_from(lot)
                 .ok()
@@ -51,6 +74,7 @@ impl Security {
             ipo,
             main: Prices::read(main)?,
             foreign: Prices::read(foreign)?,
+            figures: Figures::read(figures)?,
         })
     }
 }
@@ -66,6 +90,22 @@ impl Prices {
             bid,
             offer,
         })
+    }
+}
+
+impl Figures {
+    /// All four words are zero without figures.
+    fn read(words: &[u32]) -> Option<Option<Figures>> {
+        let &[dividend, subscription, old_shares, new_shares] = words else {
+            return None;
+        };
+        let figures = Figures {
+            dividend,
+            subscription,
+            old_shares: old_shares.try_into().ok()?,
+            new_shares: new_shares.try_into().ok()?,
+        };
+        Some((words != [0; 4]).then_some(figures))
     }
 }
 

@@ -9,7 +9,7 @@ use crate::event::Event;
 use crate::layout::{Words, word_count};
 use crate::library;
 use crate::release::check_linked;
-use crate::security::Security;
+use crate::security::{Range, Security};
 use crate::time::Time;
 
 /// The state of one trading day.
@@ -129,7 +129,7 @@ impl State {
     /// use guvontsira::{Answer, State};
     ///
     /// let mut state = State::new(1, 1)?;
-    /// let answers = state.run_list(&[&[9u8][..], &[], &[2, 2]]);
+    /// let answers = state.run_list(&[&[10u8][..], &[], &[2, 2]]);
     /// assert_eq!(answers, [Answer::Refused(3), Answer::Refused(2), Answer::Ok]);
     /// # Ok::<(), guvontsira::Refused>(())
     /// ```
@@ -155,10 +155,51 @@ impl State {
         Words::read(&self.words).map(|words| words.session)
     }
 
-    /// One security's terms and prices. `None` if there is no such security, if
-    /// the words are no state's, or if its lot or a flag is outside its list.
+    /// One security's terms, prices and figures. `None` if there is no such
+    /// security, if the words are no state's, if its lot or a flag is outside its
+    /// list, or if its old or new shares are above 65,535.
     pub fn security(&self, security: u32) -> Option<Security> {
         Security::read(Words::read(&self.words)?.security(security)?)
+    }
+
+    /// The day's range of a security on the main board. `None` if it has none: it
+    /// is free or has no prior close, there is no such security, or the words are
+    /// no state's or damaged there.
+    ///
+    /// With a base between 10/7 and 20/13 satang, which only figures can give, the
+    /// floor is 0.02 and the ceiling 0.01: every limit gets C.
+    ///
+    /// ```
+    /// use guvontsira::{Answer, Event, Range, State};
+    ///
+    /// let mut state = State::new(8, 16)?;
+    /// assert_eq!(state.range(0), None);
+    /// let setup = Event::Setup {
+    ///     security: 0,
+    ///     lot: 100,
+    ///     free: false,
+    ///     first_day: false,
+    ///     prior_close: 150_00,
+    ///     ipo: 0,
+    /// };
+    /// assert_eq!(state.send(&setup), Answer::Ok);
+    /// assert_eq!(state.range(0), Some(Range { floor: 105_00, ceiling: 195_00 }));
+    ///
+    /// let figures = Event::Figures {
+    ///     security: 0,
+    ///     dividend: 0,
+    ///     subscription: 10_00,
+    ///     old_shares: 2,
+    ///     new_shares: 3,
+    /// };
+    /// assert_eq!(state.send(&figures), Answer::Ok);
+    /// assert_eq!(state.range(0), Some(Range { floor: 46_25, ceiling: 85_75 }));
+    /// # Ok::<(), guvontsira::Refused>(())
+    /// ```
+    pub fn range(&self, security: u32) -> Option<Range> {
+        let floor = library::floor(&self.words, security);
+        let ceiling = library::ceiling(&self.words, security);
+        (floor != 0).then_some(Range { floor, ceiling })
     }
 
     /// One customer's counters and marked rows. `None` if there is no such
@@ -171,7 +212,7 @@ impl State {
 
 impl fmt::Debug for State {
     fn fmt(&self, f: &mut fmt::Formatter<'_>) -> fmt::Result {
-        // The words themselves are up to 87,812 numbers.
+        // The words themselves are up to 91,908 numbers.
         let count = self.words.len();
         f.debug_struct("State")
             .field("word_count", &count)

@@ -72,10 +72,17 @@ fn none_for_an_event_that_is_sent() {
         Event::Setup {
             security: 0,
             lot: 50,
-            free: true,
+            free: false,
             first_day: false,
             prior_close: 50_00,
             ipo: 0,
+        },
+        Event::Figures {
+            security: 0,
+            dividend: 1_00,
+            subscription: 50_00,
+            old_shares: 2,
+            new_shares: 3,
         },
         Event::Prices {
             security: 0,
@@ -117,6 +124,7 @@ fn none_for_an_event_that_is_sent() {
         Answer::Ok,
         Answer::Ok,
         Answer::Ok,
+        Answer::Ok,
         Answer::Accept,
         Answer::Ok,
         Answer::Ok,
@@ -130,6 +138,7 @@ fn none_for_an_event_that_is_sent() {
             assert!(state.send(event) == answer);
         }
         assert!(state.security(0).is_some() && state.clock() == Some(Time { milliseconds: 1 }));
+        assert!(state.range(0).is_some());
     });
     assert_eq!(sent, 0);
     // That the allocator counts.

@@ -3,7 +3,7 @@
 
 use std::fs;
 
-use guvontsira::{Answer, Nearest, State, nearest, position, price};
+use guvontsira::{Answer, Nearest, Range, State, nearest, position, price};
 
 fn document(name: &str) -> String {
     let path = format!("{}/../../docs/{name}", env!("CARGO_MANIFEST_DIR"));
@@ -144,16 +144,72 @@ fn the_words_of_records() {
     let rules = document("RULES.md");
     let rows = rows(section(&rules, "The words of a state"));
     // Of a desk, what stands before its rows.
-    for (row, size) in rows.iter().zip([4, 13, 3, 9]) {
+    for (row, size) in rows.iter().zip([4, 17, 3, 9]) {
         let words = row[2].split('@').skip(1).map(leading_number);
         assert!(words.eq(0..size), "{row:?}");
     }
     assert_eq!(rows.len(), 4);
 }
 
-fn answers(text: &str) -> Vec<Answer> {
+/// The state after these lines, and their answers.
+fn after(text: &str) -> (State, Vec<Answer>) {
     let events = events::encode_each(text).unwrap_or_else(|wrong| panic!("{text}: {wrong}"));
-    State::new(8, 16).unwrap().run_list(&events)
+    let mut state = State::new(8, 16).unwrap();
+    let answers = state.run_list(&events);
+    (state, answers)
+}
+
+fn answers(text: &str) -> Vec<Answer> {
+    after(text).1
+}
+
+/// Empty cells of a row are no figures.
+#[test]
+fn the_ranges() {
+    let rules = document("RULES.md");
+    let rows = rows(section(&rules, "The day's range"));
+    for row in &rows {
+        let [close, old, new, dividend, subscription, _, floor, ceiling] = &row[..] else {
+            panic!("{row:?}");
+        };
+        let mut day = format!("setup 0 lot 100 close {close}\n");
+        if !old.is_empty() {
+            day += &format!(
+                "figures 0 old {old} new {new} dividend {dividend} subscription {subscription}\n"
+            );
+        }
+        let (state, answers) = after(&day);
+        assert!(answers.iter().all(|answer| *answer == Answer::Ok));
+        let printed = Range {
+            floor: satang(floor),
+            ceiling: satang(ceiling),
+        };
+        assert_eq!(state.range(0), Some(printed), "{row:?}");
+    }
+    assert!(rows.len() > 8);
+}
+
+/// A cell of satang or shares; none is 0.
+fn count(cell: &str) -> u64 {
+    cell.replace(['.', '-'], "").parse().unwrap_or(0)
+}
+
+/// The base as printed, times the sum of the shares, is what they are divided into.
+#[test]
+fn the_bases() {
+    let rules = document("RULES.md");
+    for row in rows(section(&rules, "The day's range")) {
+        let base = &row[5];
+        let Some((_, decimals)) = base.split_once('.') else {
+            assert!(count(&row[0]) < 1_00, "{row:?}");
+            continue;
+        };
+        let unit = 10_u64.pow(u32::try_from(decimals.len()).unwrap()) / 100;
+        let [close, old, new, dividend, subscription] = [0, 1, 2, 3, 4].map(|at| count(&row[at]));
+        let old = old.max(1);
+        let whole = ((close - dividend) * old + subscription * new).min(close * (old + new));
+        assert_eq!(count(base) * (old + new), unit * whole, "{row:?}");
+    }
 }
 
 #[test]
@@ -271,7 +327,7 @@ fn the_text_form() {
     for row in rows(section(&text, "What the gate refuses can be written too")) {
         assert_eq!(back(&row[0]), row[0]);
         assert!(
-            matches!(answers(&row[0])[..], [Answer::Refused(5 | 6)]),
+            matches!(answers(&row[0])[..], [Answer::Refused(5 | 6 | 13)]),
             "{row:?}"
         );
     }

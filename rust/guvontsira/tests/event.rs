@@ -1,5 +1,5 @@
 //! The bytes of events: each kind's length and places as in paper 01, "Events",
-//! and in paper 02 (rest).
+//! and in paper 02 (rest and figures).
 
 use guvontsira::{Answer, Board, Channel, Event, Mark, OrderType, Session, Side, State};
 
@@ -46,13 +46,21 @@ const REST: Event = Event::Rest {
     price: 0x0a09_0807,
 };
 
+const FIGURES: Event = Event::Figures {
+    security: 0x0201,
+    dividend: 0x0605_0403,
+    subscription: 0x0a09_0807,
+    old_shares: 0x0c0b,
+    new_shares: 0x0e0d,
+};
+
 fn session(session: Session) -> Event {
     Event::Session { session }
 }
 
 #[test]
 fn places() {
-    let table: [(Event, usize, &[u8]); 8] = [
+    let table: [(Event, usize, &[u8]); 9] = [
         (CLOCK, 5, &[1, 1, 2, 3, 4]),
         (session(Session::PreClose), 2, &[2, 4]),
         (
@@ -77,6 +85,11 @@ fn places() {
         (CANCEL, 7, &[6, 1, 2, 3, 4, 5, 6]),
         (MATCH, 11, &[7, 1, 2, 3, 4, 5, 6, 7, 8, 9, 10]),
         (REST, 11, &[8, 1, 2, 3, 4, 5, 6, 7, 8, 9, 10]),
+        (
+            FIGURES,
+            15,
+            &[9, 1, 2, 3, 4, 5, 6, 7, 8, 9, 10, 11, 12, 13, 14],
+        ),
     ];
     let mut all = Vec::new();
     for (event, length, bytes) in table {
@@ -186,6 +199,16 @@ fn as_the_text_form() {
                 customer: 3,
                 number: 70_000,
                 price: 50_25,
+            },
+        ),
+        (
+            "figures 300 old 2 new 65535 dividend 1.50 subscription 10.00",
+            Event::Figures {
+                security: 300,
+                dividend: 1_50,
+                subscription: 10_00,
+                old_shares: 2,
+                new_shares: 65_535,
             },
         ),
     ];

@@ -1,8 +1,8 @@
 //! The wrapper's own behaviour: its types, its counts and its refusals.
 
 use guvontsira::{
-    Answer, Board, Channel, Event, Mark, OrderType, Prices, Row, Rule, Security, Session, Side,
-    State, Time, VERSION, library,
+    Answer, Board, Channel, Event, Figures, Mark, OrderType, Prices, Range, Row, Rule, Security,
+    Session, Side, State, Time, VERSION, library,
 };
 
 fn answers(state: &mut State, text: &str) -> Vec<String> {
@@ -52,8 +52,8 @@ fn counts_out_of_range() {
         assert_eq!(refused.to_string(), "refused 1");
     }
     let largest = State::new(256, 1_024).unwrap();
-    assert_eq!(largest.words().len(), 87_812);
-    assert_eq!(format!("{largest:?}"), "State { word_count: 87812, .. }");
+    assert_eq!(largest.words().len(), 91_908);
+    assert_eq!(format!("{largest:?}"), "State { word_count: 91908, .. }");
 }
 
 #[test]
@@ -181,8 +181,10 @@ fn a_fresh_market() {
             ipo: 0,
             main: UNKNOWN,
             foreign: UNKNOWN,
+            figures: None,
         };
         assert_eq!(state.security(security), Some(fresh));
+        assert_eq!(state.range(security), None);
     }
     assert_eq!(state.security(3), None);
     assert_eq!(state.security(u32::MAX), None);
@@ -244,13 +246,112 @@ prices 2 foreign projected 40.00 last 39.75 bid 39.50 offer 40.25
     }
     for (place, word) in [(0, 0), (0, 10), (0, 256 + 50), (1, 2), (2, 2)] {
         let mut words = state.words().to_vec();
-        words[4 + 13 * 2 + place] = word;
+        words[4 + 17 * 2 + place] = word;
         let mut damaged = State::from_words(words);
         assert_eq!(damaged.security(2), None);
         assert_eq!(damaged.security(1), Some(other));
         assert_eq!(damaged.clock(), Some(time));
         assert_eq!(damaged.handle(&[2, 2]), Answer::Refused(8));
     }
+}
+
+/// Request 3 of paper 02: figures, the range that they give, and the setup that
+/// clears them.
+#[test]
+fn ranges() {
+    let mut state = State::new(2, 3).unwrap();
+    let range = |floor, ceiling| Some(Range { floor, ceiling });
+    answers(&mut state, "session open\nsetup 1 lot 100 close 150.00\n");
+    assert_eq!(state.range(1), range(105_00, 195_00));
+    assert_eq!(state.security(1).unwrap().figures, None);
+
+    let figures = |dividend, old_shares| Event::Figures {
+        security: 1,
+        dividend,
+        subscription: 10_00,
+        old_shares,
+        new_shares: 3,
+    };
+    assert_eq!(state.send(&figures(0, 0)), Answer::Refused(13));
+    assert_eq!(state.send(&figures(150_00, 2)), Answer::Refused(13));
+    assert_eq!(state.range(1), range(105_00, 195_00));
+    assert_eq!(state.send(&figures(0, 2)), Answer::Ok);
+    let set = Figures {
+        dividend: 0,
+        subscription: 10_00,
+        old_shares: 2,
+        new_shares: 3,
+    };
+    assert_eq!(state.security(1).unwrap().figures, Some(set));
+    assert_eq!(state.range(1), range(46_25, 85_75));
+    let limits = "\
+order 0 no 1 security 1 main buy limit 85.75 x 100 front
+order 0 no 2 security 1 main buy limit 86.00 x 100 front
+order 0 no 3 security 1 foreign buy limit 86.00 x 100 front
+";
+    assert_eq!(
+        answers(&mut state, limits),
+        ["accept", "reject C", "accept"]
+    );
+    assert_eq!((state.range(0), state.range(3)), (None, None));
+
+    answers(&mut state, "setup 1 lot 100 close 0.99\n");
+    assert_eq!(state.security(1).unwrap().figures, None);
+    assert_eq!(state.range(1), range(1, 1_98));
+    answers(&mut state, "setup 1 lot 100 free close 150.00\n");
+    assert_eq!(state.range(1), None);
+}
+
+/// A base of 3/2 satang: the floor is above the ceiling.
+#[test]
+fn a_range_without_a_price() {
+    let mut state = State::new(1, 1).unwrap();
+    let day = "\
+session open
+setup 0 lot 100 close 1.00
+figures 0 old 1 new 1 dividend 0.97
+order 0 no 1 security 0 main buy limit 0.01 x 100 front
+order 0 no 1 security 0 main buy limit 0.02 x 100 front
+";
+    assert_eq!(
+        answers(&mut state, day),
+        ["ok", "ok", "ok", "reject C", "reject C"]
+    );
+    let empty = Range {
+        floor: 2,
+        ceiling: 1,
+    };
+    assert_eq!(state.range(0), Some(empty));
+}
+
+/// Dividend, subscription, old and new shares as no figures event could have set
+/// them: the record is damaged and has no range, and where the words still have
+/// their types they can be read.
+#[test]
+fn damaged_figures() {
+    let mut state = State::new(1, 2).unwrap();
+    answers(
+        &mut state,
+        "setup 1 lot 100 close 150.00\nfigures 1 old 2 new 3 subscription 10.00\n",
+    );
+    let table = [
+        (13, 150_00, true),
+        (15, 0, true),
+        (15, 65_536, false),
+        (16, 65_536, false),
+        (16, u32::MAX, false),
+    ];
+    for (place, word, is_read) in table {
+        let mut words = state.words().to_vec();
+        words[4 + 17 + place] = word;
+        let mut damaged = State::from_words(words);
+        assert_eq!(damaged.range(1), None, "{place}: {word}");
+        assert_eq!(damaged.security(1).is_some(), is_read, "{place}: {word}");
+        assert_eq!(damaged.handle(&[2, 2]), Answer::Refused(8));
+    }
+    let mut short = State::from_words(state.words()[1..].to_vec());
+    assert_eq!(short.range(1), None);
+    assert_eq!(short.handle(&[2, 2]), Answer::Refused(1));
 }
 
 /// By its fields an event gets the answer and leaves the words that it does by
@@ -320,7 +421,7 @@ fn words_kept_and_damaged() {
     // Board and type of customer 0's first row.
     for (place, code) in [(3, 2), (5, 4)] {
         let mut words = state.words().to_vec();
-        words[4 + 13 * 3 + 3 + place] = code;
+        words[4 + 17 * 3 + 3 + place] = code;
         let mut damaged = State::from_words(words);
         assert_eq!(damaged.desk(0), None);
         assert!(damaged.desk(1).is_some());
@@ -334,7 +435,7 @@ fn a_row_that_cannot_be_mp() {
     let mut state = State::new(2, 3).unwrap();
     answers(&mut state, PAPER);
     let mut words = state.words().to_vec();
-    words[4 + 13 * 3 + 3 + 5] = 3;
+    words[4 + 17 * 3 + 3 + 5] = 3;
     let mut damaged = State::from_words(words);
     assert_eq!(damaged.desk(0).unwrap().rows[0].order_type, OrderType::Mp);
     assert_eq!(damaged.handle(&[2, 2]), Answer::Refused(8));
@@ -345,7 +446,8 @@ fn runs_of_any_length() {
     let mut state = State::new(1, 1).unwrap();
     assert_eq!(state.run(&[]), []);
     assert_eq!(state.run(&[2]), [Answer::Refused(2)]);
-    assert_eq!(state.run(&[9]), [Answer::Refused(3)]);
+    assert_eq!(state.run(&[9]), [Answer::Refused(2)]);
+    assert_eq!(state.run(&[10]), [Answer::Refused(3)]);
     let shortest = [2, 1].repeat(1_000);
     assert_eq!(state.run(&shortest).len(), 1_000);
     let cut = &shortest[..1_999];
@@ -353,7 +455,7 @@ fn runs_of_any_length() {
     assert_eq!(state.run(cut).last(), Some(&Answer::Refused(2)));
 
     let mut numbers = [77; 4];
-    let handled = library::run(&mut state.words().to_vec(), &[2, 1, 2, 1, 9], &mut numbers);
+    let handled = library::run(&mut state.words().to_vec(), &[2, 1, 2, 1, 10], &mut numbers);
     assert_eq!((handled, numbers), (3, [0, 0, 3, 77]));
     let handled = library::run(&mut state.words().to_vec(), &shortest, &mut numbers[..2]);
     assert_eq!(handled, 2);

@@ -5,13 +5,14 @@ use guvontsira::Answer;
 /// Every answer by its words in a listing; beside it, the papers' rule or
 /// condition in short. A summary is in this order.
 #[rustfmt::skip]
-pub const ANSWERS: [(&str, &str); 21] = [
+pub const ANSWERS: [(&str, &str); 23] = [
     ("ok", "carried out"),
     ("accept", "may go to the exchange"),
     ("warn 10", "may go, but more than 10 positions from the reference price"),
     ("warn 30", "may go, but above 130% or below 70% of the last sale"),
     ("reject S", "no such order in this session, or MP with no best price opposite"),
     ("reject V", "volume 0, too large or not in whole lots, or value too large"),
+    ("reject C", "above the ceiling or below the floor of the day"),
     ("reject Q", "above 150% or below 50% of the reference price"),
     ("reject W", "would trade with the customer's own order"),
     ("reject P", "large order entered again within a minute of its cancel"),
@@ -27,6 +28,7 @@ pub const ANSWERS: [(&str, &str); 21] = [
     ("refused 10", "no open order with this number, or for a rest no MP order"),
     ("refused 11", "volume 0, or more than is open"),
     ("refused 12", "desk full: 32 orders open or cancelled within a minute"),
+    ("refused 13", "old shares 0, or dividend not below the prior close"),
 ];
 
 /// The first words of answers; beside each its colour, the parameter of a

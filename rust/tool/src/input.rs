@@ -35,7 +35,7 @@ pub fn events_of_text(file: &Path, bytes: &[u8]) -> Result<Vec<Vec<u8>>, Failure
 }
 
 /// A kind of event is a control character, and no text begins with one but for
-/// white space. Kinds 9 to 12 of paper 02 are white space too: there another
+/// white space. Kind 9, and 10 to 12 of paper 02, are white space too: there another
 /// control character tells, such as the high byte of a security.
 fn is_bytes(day: &[u8]) -> bool {
     let white = |byte: &u8| byte.is_ascii_whitespace() || *byte == b'\x0b';
@@ -68,13 +68,14 @@ mod tests {
             "\n# ฿\n".as_bytes(),
             b"session \x07",
         ];
-        let bytes: [&[u8]; 6] = [
+        let bytes: [&[u8]; 7] = [
             &[2, 2],
             &[0],
             // a rest, whole or cut: 8 is no white space
             &[8, b'a', b'b', 5, 0, 0, 0, 0xa1, 0x13, 0, 0],
             &[8, b'a', b'b'],
-            // paper 02's kinds 9 and 10, for security 0 and for one with a letter's number
+            // figures, whole or cut, and paper 02's kind 10 for a security with a letter's number
+            &[9, b'a', 0, 0, 0, 0, 0, 232, 3, 0, 0, b' ', b' ', b' ', b' '],
             &[9, 0, 0],
             &[10, b'a', 0, 100, 0, 0],
         ];

@@ -8,7 +8,7 @@ use guvontsira::{MAX_POSITION, MAX_PRICE, Nearest};
 use crate::table::{self, Column};
 
 /// The lowest and the highest legal price within, as the library gives them.
-type Range = [Option<u32>; 2];
+type Ends = [Option<u32>; 2];
 
 /// The price is 1 to [`MAX_PRICE`].
 pub fn write(out: &mut impl Write, price: u32) -> io::Result<()> {
@@ -17,7 +17,7 @@ pub fn write(out: &mut impl Write, price: u32) -> io::Result<()> {
     writeln!(out, "next below  {}", shown(at_or_below(price - 1)))?;
     writeln!(out, "next above  {}", shown(at_or_above(price + 1)))?;
     writeln!(out)?;
-    let ranges = [
+    let within = [
         ("10 positions", "warn 10", positions(nearest, 10)),
         ("30 percent", "warn 30", percent(price, 30)),
         ("50 percent", "reject Q", percent(price, 50)),
@@ -28,8 +28,8 @@ pub fn write(out: &mut impl Write, price: u32) -> io::Result<()> {
         Column::Right("to"),
         Column::Left("outside"),
     ];
-    let rows = ranges.map(|(within, outside, range)| {
-        let [from, to] = range.map(shown);
+    let rows = within.map(|(within, outside, ends)| {
+        let [from, to] = ends.map(shown);
         [within.to_string(), from, to, outside.to_string()]
     });
     table::write(out, columns, &rows)
@@ -66,7 +66,7 @@ fn at_or_above(price: u32) -> Option<u32> {
 
 /// Paper 02, request 2: "counts up from the lower and down from the upper
 /// position".
-fn positions(nearest: Nearest, count: u32) -> Range {
+fn positions(nearest: Nearest, count: u32) -> Ends {
     let from = nearest.upper.saturating_sub(count).max(1);
     let to = (nearest.lower + count).min(MAX_POSITION);
     [from, to].map(guvontsira::price)
@@ -74,7 +74,7 @@ fn positions(nearest: Nearest, count: u32) -> Range {
 
 /// The rules compare 100 times a price with the percentage, exactly: so the low
 /// end is rounded up to whole satang and the high end down.
-fn percent(price: u32, percent: u32) -> Range {
+fn percent(price: u32, percent: u32) -> Ends {
     let low = (price * (100 - percent)).div_ceil(100);
     let high = price * (100 + percent) / 100;
     [at_or_above(low), at_or_below(high.min(MAX_PRICE))]
@@ -84,64 +84,64 @@ fn percent(price: u32, percent: u32) -> Range {
 mod tests {
     use super::*;
 
-    fn range(from: u32, to: u32) -> Range {
+    fn from_to(from: u32, to: u32) -> Ends {
         [Some(from), Some(to)]
     }
 
-    fn ten(price: u32) -> Range {
+    fn ten(price: u32) -> Ends {
         positions(guvontsira::nearest(price).unwrap(), 10)
     }
 
     /// Paper 01, "Along each edge".
     #[test]
     fn edges() {
-        assert_eq!(percent(10_00, 50), range(5_00, 15_00));
-        assert_eq!(percent(10_00, 30), range(7_00, 13_00));
-        assert_eq!(ten(24_50), range(23_50, 26_25));
+        assert_eq!(percent(10_00, 50), from_to(5_00, 15_00));
+        assert_eq!(percent(10_00, 30), from_to(7_00, 13_00));
+        assert_eq!(ten(24_50), from_to(23_50, 26_25));
     }
 
     #[test]
     fn ends() {
-        assert_eq!(ten(1), range(1, 11));
-        assert_eq!(ten(5), range(1, 15));
-        assert_eq!(ten(11), range(1, 21));
-        assert_eq!(ten(12), range(2, 22));
-        assert_eq!(ten(MAX_PRICE), range(99_980_00, MAX_PRICE));
-        assert_eq!(ten(99_999_99), range(99_980_00, MAX_PRICE));
-        assert_eq!(ten(99_979_99), range(99_960_00, 99_998_00));
-        assert_eq!(percent(1, 50), range(1, 1));
-        assert_eq!(percent(MAX_PRICE, 30), range(70_000_00, MAX_PRICE));
-        assert_eq!(percent(99_999_99, 50), range(50_000_00, MAX_PRICE));
+        assert_eq!(ten(1), from_to(1, 11));
+        assert_eq!(ten(5), from_to(1, 15));
+        assert_eq!(ten(11), from_to(1, 21));
+        assert_eq!(ten(12), from_to(2, 22));
+        assert_eq!(ten(MAX_PRICE), from_to(99_980_00, MAX_PRICE));
+        assert_eq!(ten(99_999_99), from_to(99_980_00, MAX_PRICE));
+        assert_eq!(ten(99_979_99), from_to(99_960_00, 99_998_00));
+        assert_eq!(percent(1, 50), from_to(1, 1));
+        assert_eq!(percent(MAX_PRICE, 30), from_to(70_000_00, MAX_PRICE));
+        assert_eq!(percent(99_999_99, 50), from_to(50_000_00, MAX_PRICE));
     }
 
     /// Paper 02's adjusted close, and prices one satang from a band's first.
     #[test]
     fn between_two_steps() {
-        assert_eq!(ten(65_60), range(63_25, 68_00));
-        assert_eq!(ten(1_99), range(1_89, 2_18));
-        assert_eq!(ten(2_01), range(1_91, 2_20));
-        assert_eq!(ten(4_99), range(4_80, 5_45));
-        assert_eq!(ten(5_01), range(4_82, 5_50));
-        assert_eq!(ten(9_99), range(9_50, 10_90));
-        assert_eq!(ten(10_01), range(9_55, 11_00));
-        assert_eq!(ten(24_99), range(24_00, 27_25));
-        assert_eq!(ten(25_01), range(24_10, 27_50));
-        assert_eq!(ten(99_99), range(97_50, 104_50));
-        assert_eq!(ten(100_01), range(97_75, 105_00));
-        assert_eq!(ten(199_99), range(195_00, 209_00));
-        assert_eq!(ten(200_01), range(195_50, 210_00));
-        assert_eq!(ten(399_99), range(390_00, 418_00));
-        assert_eq!(ten(400_01), range(391_00, 420_00));
+        assert_eq!(ten(65_60), from_to(63_25, 68_00));
+        assert_eq!(ten(1_99), from_to(1_89, 2_18));
+        assert_eq!(ten(2_01), from_to(1_91, 2_20));
+        assert_eq!(ten(4_99), from_to(4_80, 5_45));
+        assert_eq!(ten(5_01), from_to(4_82, 5_50));
+        assert_eq!(ten(9_99), from_to(9_50, 10_90));
+        assert_eq!(ten(10_01), from_to(9_55, 11_00));
+        assert_eq!(ten(24_99), from_to(24_00, 27_25));
+        assert_eq!(ten(25_01), from_to(24_10, 27_50));
+        assert_eq!(ten(99_99), from_to(97_50, 104_50));
+        assert_eq!(ten(100_01), from_to(97_75, 105_00));
+        assert_eq!(ten(199_99), from_to(195_00, 209_00));
+        assert_eq!(ten(200_01), from_to(195_50, 210_00));
+        assert_eq!(ten(399_99), from_to(390_00, 418_00));
+        assert_eq!(ten(400_01), from_to(391_00, 420_00));
     }
 
     /// A percentage of a price that is no whole satang: 50% of 12.01 is 6.005,
     /// and 150% of it 18.015.
     #[test]
     fn no_whole_satang() {
-        assert_eq!(percent(12_01, 50), range(6_05, 18_00));
-        assert_eq!(percent(3, 50), range(2, 4));
-        assert_eq!(percent(3, 30), range(3, 3));
-        assert_eq!(percent(1_99, 30), range(1_40, 2_58));
+        assert_eq!(percent(12_01, 50), from_to(6_05, 18_00));
+        assert_eq!(percent(3, 50), from_to(2, 4));
+        assert_eq!(percent(3, 30), from_to(3, 3));
+        assert_eq!(percent(1_99, 30), from_to(1_40, 2_58));
     }
 
     /// Legal prices and those beside them, by the places of the list of all legal
@@ -161,12 +161,12 @@ mod tests {
             let above = legal.get(lower + 1).copied();
             assert_eq!(at_or_above(price + 1), above, "{price}");
             let (from, to) = (upper.saturating_sub(10), last.min(lower + 10));
-            assert_eq!(ten(price), range(legal[from], legal[to]), "{price}");
+            assert_eq!(ten(price), from_to(legal[from], legal[to]), "{price}");
             for width in [30, 50] {
                 let (low, high) = (price * (100 - width), price * (100 + width));
                 let from = legal.partition_point(|&p| p * 100 < low);
                 let past = legal.partition_point(|&p| p * 100 <= high);
-                let exact = range(legal[from], legal[past - 1]);
+                let exact = from_to(legal[from], legal[past - 1]);
                 assert_eq!(percent(price, width), exact, "{price}");
             }
         }

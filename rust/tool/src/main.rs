@@ -66,7 +66,7 @@ fn carry_out(command: Command, out: &mut impl Write) -> Result<(), Failure> {
                 .security(security)
                 .expect("the security is one of them");
             title(out, &format!("security {security}"), &state)?;
-            security::write(out, &record)?;
+            security::write(out, &record, state.range(security))?;
         }
         Command::Ladder { price } => ladder::write(out, price)?,
         Command::Encode { file } => {

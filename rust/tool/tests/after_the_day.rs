@@ -114,6 +114,8 @@ free         yes, no ceiling and floor
 first day    no
 prior close  -
 IPO price    12.05
+figures      -
+range        -
 
 board    projected   last    bid  offer
 main             -      -      -      -
@@ -130,6 +132,8 @@ free         yes, no ceiling and floor
 first day    yes
 prior close  -
 IPO price    12.00
+figures      -
+range        -
 
 board    projected   last    bid  offer
 main             -  20.00  19.90  20.10
@@ -144,6 +148,77 @@ foreign          -      -      -      -
     assert!(out(&["security", "-", "5"], DAY).contains("\nprior close  65.50\n"));
     let last = out(&["security", "-", "1023", "--securities", "1024"], b"");
     assert!(last.starts_with("security 1023 at "));
+}
+
+/// The figures and the range of security 0 after these lines.
+fn figures_and_range(lines: &str) -> [String; 2] {
+    let security = out(&["security", "-", "0"], lines.as_bytes());
+    ["figures", "range"].map(|name| {
+        let line = security.lines().find_map(|line| line.strip_prefix(name));
+        line.unwrap().trim_start().to_string()
+    })
+}
+
+#[test]
+fn ranges() {
+    let table = [
+        ("", "-", "-"),
+        (
+            "setup 0 lot 100 close 150.00\n",
+            "-",
+            "floor 105.00, ceiling 195.00",
+        ),
+        (
+            "setup 0 lot 100 close 150.00\nfigures 0 old 2 new 3 subscription 10.00\n",
+            "old 2, new 3, dividend -, subscription 10.00",
+            "floor 46.25, ceiling 85.75",
+        ),
+        (
+            "setup 0 lot 100 free close 10.00\nfigures 0 old 1 new 0 dividend 0.50\n",
+            "old 1, new 0, dividend 0.50, subscription -",
+            "-",
+        ),
+        (
+            "setup 0 lot 100 close 1.00\nfigures 0 old 1 new 1 dividend 0.97\n",
+            "old 1, new 1, dividend 0.97, subscription -",
+            "floor 0.02, ceiling 0.01, no limit is within",
+        ),
+    ];
+    for (lines, figures, range) in table {
+        assert_eq!(figures_and_range(lines), [figures, range], "{lines}");
+    }
+}
+
+/// Orders at the ends of the range, and one step past them.
+#[test]
+fn ranges_and_orders() {
+    let right = "figures 0 old 2 new 3 dividend 0.01 subscription 0.50\n";
+    for (close, figures) in [
+        ("150.00", ""),
+        ("150.00", right),
+        ("65.60", ""),
+        ("65.60", right),
+        ("2.01", right),
+        ("99999.99", right),
+    ] {
+        let day = format!("session open\nsetup 0 lot 100 close {close}\n{figures}");
+        let [_, range] = figures_and_range(&day);
+        let range = range.strip_prefix("floor ").unwrap();
+        let (floor, ceiling) = range.split_once(", ceiling ").unwrap();
+        let answer = |limit: &str| {
+            let order = format!("order 0 no 1 security 0 main buy limit {limit} x 100 dma\n");
+            let answers = out(&["day", "-", "--quiet"], format!("{day}{order}").as_bytes());
+            answers.lines().last().unwrap().to_string()
+        };
+        for within in [floor, ceiling] {
+            assert_eq!(answer(within), "accept", "{day}{within}");
+        }
+        let below = ladder_line(floor, "next below").concat();
+        let above = ladder_line(ceiling, "next above").concat();
+        for outside in [below, above].iter().filter(|price| *price != "-") {
+            assert_eq!(answer(outside), "reject C", "{day}{outside}");
+        }
+    }
 }
 
 /// In bytes as in text.
@@ -250,8 +325,8 @@ fn ladder_and_orders() {
     for close in [
         "65.60", "24.50", "4.99", "2.01", "399.99", "0.50", "99979.99",
     ] {
-        let range = ladder_line(close, "10 positions");
-        let (from, to) = (&range[0], &range[1]);
+        let ends = ladder_line(close, "10 positions");
+        let (from, to) = (&ends[0], &ends[1]);
         for within in [from, to] {
             assert_eq!(answer(close, within), "accept\n", "{close}: {within}");
         }

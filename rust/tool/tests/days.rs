@@ -106,26 +106,28 @@ fn broken_events() {
     );
 }
 
-/// Kind 8 is known, whole or cut; the first unknown one, 9, is a tab, and ends a
-/// day of bytes all the same.
+/// Kind 9 is known, whole or cut, though it is a tab; the first unknown one, 10,
+/// is a line feed, and ends a day of bytes all the same.
 #[test]
 fn the_last_kind_and_the_first_unknown() {
-    let rest = [8, 0, 0, 5, 0, 0, 0, 161, 19, 0, 0];
+    let figures = [9, 0, 0, 0, 0, 0, 0, 232, 3, 0, 0, 2, 0, 3, 0];
+    let line = "figures 0 old 2 new 3 dividend - subscription 10.00";
     assert_eq!(
-        day(&[], &rest),
-        "rest 0 no 5 at 50.25  refused 10  no open order with this number, \
-         or for a rest no MP order\n\
-         \n1 event\n1 refused 10\n"
+        day(&[], &figures),
+        format!(
+            "{line}  refused 13  old shares 0, or dividend not below the prior close\n\
+             \n1 event\n1 refused 13\n"
+        )
     );
-    assert_eq!(day(&["--quiet"], &rest[..10]), "refused 2\n");
-    let unknown = [&rest[..], &[9, 1], &rest].concat();
-    assert_eq!(day(&["--quiet"], &unknown), "refused 10\nrefused 3\n");
-    assert_eq!(day(&["--quiet"], &unknown[11..]), "refused 3\n");
+    assert_eq!(day(&["--quiet"], &figures[..14]), "refused 2\n");
+    let unknown = [&figures[..], &[10, 1], &figures].concat();
+    assert_eq!(day(&["--quiet"], &unknown), "refused 13\nrefused 3\n");
+    assert_eq!(day(&["--quiet"], &unknown[15..]), "refused 3\n");
     let decoded = run(&["decode"], &unknown);
-    assert_eq!(text(&decoded.stdout), "rest 0 no 5 at 50.25\n");
+    assert_eq!(text(&decoded.stdout), format!("{line}\n"));
     assert_eq!(
         text(&decoded.stderr),
-        "standard input: byte 11: kind 9 is unknown\n"
+        "standard input: byte 15: kind 10 is unknown\n"
     );
 }
 

@@ -25,7 +25,8 @@ fn bad_lines() {
         "standard input:2: not UTF-8 text\n"
     );
     // A listing is no day.
-    let commands = "expected clock, session, setup, prices, order, cancel, match, rest or bytes";
+    let commands =
+        "expected clock, session, setup, prices, order, cancel, match, rest, figures or bytes";
     assert_eq!(
         error(&["day", "./day.listing"], b"", 1),
         format!("./day.listing:1: \"screen\": {commands}\n")
