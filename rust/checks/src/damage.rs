@@ -11,7 +11,7 @@ use crate::prices::{nearest, step};
 use crate::program::Program;
 
 /// At, below and above what any field may hold.
-const VALUES: [u32; 45] = [
+const VALUES: [u32; 47] = [
     0,
     1,
     2,
@@ -46,6 +46,8 @@ const VALUES: [u32; 45] = [
     400_01,
     60_000,
     60_001,
+    65_535,
+    65_536,
     9_999_999,
     10_000_000,
     10_000_001,
@@ -188,20 +190,21 @@ fn reads(event: &[u8], security: u16) -> bool {
         Ok(Event::Setup(setup)) => setup.security == security,
         Ok(Event::Prices(prices)) => prices.security == security,
         Ok(Event::Order(order)) => order.security == security,
+        Ok(Event::Figures(figures)) => figures.security == security,
         _ => false,
     }
 }
 
-/// 13 customers less and 291 securities more take as many words: the header is
+/// 17 customers less and 291 securities more take as many words: the header is
 /// sound, and what follows it is read in other places.
 fn other_counts(program: &mut Program) {
     for (name, base) in bases() {
         let events = events_for(&base);
-        let mut many = fresh(14, 1);
+        let mut many = fresh(18, 1);
         let shared = many.len().min(base.len());
         many[4..shared].copy_from_slice(&base[4..shared]);
         many[2..4].copy_from_slice(&base[2..4]);
-        for (customers, securities) in [(14, 1), (1, 292)] {
+        for (customers, securities) in [(18, 1), (1, 292)] {
             many[..2].copy_from_slice(&[customers, securities]);
             program.each(
                 format_args!("{name}, as of {customers} customers"),
@@ -219,14 +222,14 @@ fn wrong_lengths(program: &mut Program) {
         events.extend([
             vec![],
             vec![0],
-            vec![8, 1],
             vec![9, 1],
+            vec![10, 1],
             vec![2],
             vec![255; 40],
         ]);
         let mut longer = base.clone();
         longer.push(0);
-        let lengths = [0, 1, 2, 3, 4, 17, 308, base.len() - 1, base.len() + 1];
+        let lengths = [0, 1, 2, 3, 4, 21, 312, base.len() - 1, base.len() + 1];
         for length in lengths {
             program.each(
                 format_args!("{name}, {length} words"),
