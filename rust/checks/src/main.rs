@@ -24,6 +24,7 @@ mod prior_closes;
 mod program;
 mod random;
 mod range_places;
+mod ranges;
 mod references;
 mod repeats;
 mod report;
@@ -46,7 +47,7 @@ use program::Program;
 type Group = (&'static str, fn(&mut Program));
 
 /// Cases that are the same in every run of one seed.
-const FIXED: [Group; 13] = [
+const FIXED: [Group; 14] = [
     ("edges", |program| {
         script::run(program, "edges.txt", include_str!("../cases/edges.txt"))
     }),
@@ -77,6 +78,7 @@ const FIXED: [Group; 13] = [
     ("repeats", repeats::run),
     ("references", references::run),
     ("prior-closes", prior_closes::run),
+    ("ranges", ranges::run),
     ("lengths", lengths::fixed),
     ("damage", damage::run),
     ("ladder", ladder::run),
