@@ -23,6 +23,7 @@ mod prices;
 mod prior_closes;
 mod program;
 mod random;
+mod range_orders;
 mod range_places;
 mod ranges;
 mod references;
@@ -47,7 +48,7 @@ use program::Program;
 type Group = (&'static str, fn(&mut Program));
 
 /// Cases that are the same in every run of one seed.
-const FIXED: [Group; 14] = [
+const FIXED: [Group; 15] = [
     ("edges", |program| {
         script::run(program, "edges.txt", include_str!("../cases/edges.txt"))
     }),
@@ -79,6 +80,7 @@ const FIXED: [Group; 14] = [
     ("references", references::run),
     ("prior-closes", prior_closes::run),
     ("ranges", ranges::run),
+    ("range-orders", range_orders::run),
     ("lengths", lengths::fixed),
     ("damage", damage::run),
     ("ladder", ladder::run),
