@@ -41,15 +41,15 @@ impl Range {
 
 /// "kept as two whole numbers": a fraction in satang.
 struct Base {
-    above: u128,
-    below: u128,
+    numerator: u128,
+    denominator: u128,
 }
 
 impl Base {
     fn of(close: u32, figures: Option<&Figures>) -> Base {
         let whole = Base {
-            above: close.into(),
-            below: 1,
+            numerator: close.into(),
+            denominator: 1,
         };
         match figures {
             Some(figures) => whole.min(Base::after_right(close, figures)),
@@ -61,13 +61,13 @@ impl Base {
     fn after_right(close: u32, figures: &Figures) -> Base {
         let [dividend, subscription, old, new] = figures.words().map(u128::from);
         Base {
-            above: (u128::from(close) - dividend) * old + subscription * new,
-            below: old + new,
+            numerator: (u128::from(close) - dividend) * old + subscription * new,
+            denominator: old + new,
         }
     }
 
     fn min(self, other: Base) -> Base {
-        if self.above * other.below <= other.above * self.below {
+        if self.numerator * other.denominator <= other.numerator * self.denominator {
             self
         } else {
             other
@@ -77,7 +77,7 @@ impl Base {
     /// "130% of the base, down to a legal price and at most 10,000,000", at
     /// least 1.
     fn ceiling(&self) -> u32 {
-        let satang = self.above * 130 / (self.below * 100);
+        let satang = self.numerator * 130 / (self.denominator * 100);
         let most = satang.min(LAST_PRICE.into()) as u32;
         let down = (FIRST_PRICE..=most)
             .rev()
@@ -87,7 +87,7 @@ impl Base {
 
     /// "70%, up to one", at least 1.
     fn floor(&self) -> u32 {
-        let satang = (self.above * 70).div_ceil(self.below * 100);
+        let satang = (self.numerator * 70).div_ceil(self.denominator * 100);
         // The base is no more than the prior close, so a legal price is above.
         let least = satang.clamp(FIRST_PRICE.into(), LAST_PRICE.into()) as u32;
         let up = (least..=LAST_PRICE).find(|&price| ladder::legal(price));
