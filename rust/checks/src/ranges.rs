@@ -9,6 +9,7 @@ use second::ladder::LAST_PRICE;
 use second::range;
 use second::state::word_count;
 
+use crate::both::Lent;
 use crate::figures::any_figures;
 use crate::layout::{FIGURES, PRIOR_CLOSE, fresh, security_start};
 use crate::prices::{middle, prior_close};
@@ -196,18 +197,25 @@ fn nothing(program: &mut Program, name: &str, words: &[u32], security: u32) {
 }
 
 /// The ranges of these securities, by the library and by the second
-/// implementation, as one case.
+/// implementation, as one case. The library only reads.
 pub fn compare(
     program: &mut Program,
     name: &str,
     words: &[u32],
     mut securities: RangeInclusive<u32>,
 ) {
-    let gate = |security| [library::floor, library::ceiling].map(|edge| edge(words, security));
+    let mut lent = Lent::default();
+    lent.set(words);
+    let gate =
+        |security| [library::floor, library::ceiling].map(|edge| edge(lent.words(), security));
     let second = |security| [range::floor, range::ceiling].map(|edge| edge(words, security));
     let unlike = securities.find(|&security| gate(security) != second(security));
-    program.holds(format_args!("{name}, ranges"), unlike.is_none(), || {
-        let security = unlike.unwrap_or_default();
+    let is_kept = lent.words() == words && lent.is_guard_whole();
+    let holds = unlike.is_none() && is_kept;
+    program.holds(format_args!("{name}, ranges"), holds, || {
+        let Some(security) = unlike else {
+            return "a word was written".into();
+        };
         let record = words.get(security_start(security as usize)..);
         let record = record.map(|record| &record[..record.len().min(17)]);
         let (gate, second) = (gate(security), second(security));
