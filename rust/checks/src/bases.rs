@@ -9,13 +9,15 @@ pub const CUSTOMERS: u32 = 2;
 pub const SECURITIES: u32 = 3;
 
 /// An open session: open rows on both boards and sides, and cancelled ones; MP
-/// rows, one of them a limit by now.
+/// rows, one of them a limit by now. Security 2 has a range from figures: 231.00
+/// to 428.00.
 const OPEN: &str = "\
 clock 10:00:00
 session open
 setup 0 lot 100 free close 50.00
 setup 1 lot 50 free first-day close 10.00 ipo 10.01
 setup 2 lot 1 close 400.00
+figures 2 old 2 new 1 dividend 5.00 subscription 200.00
 prices 0 main last 50.00 bid 49.75 offer 50.25
 prices 0 foreign last 51.00 bid 50.75 offer 51.25
 prices 1 main last 10.00
@@ -37,12 +39,13 @@ cancel 0 no 4
 ";
 
 /// Before the opening: ATO rows, projected prices. Of security 2 there is only a
-/// prior close, between two steps.
+/// prior close, between two steps, with figures.
 const PRE_OPEN: &str = "\
 clock 09:45:00
 session pre-open
 setup 0 lot 100 free first-day close 24.50 ipo 24.00
 setup 2 lot 100 close 65.60
+figures 2 old 10 new 1 subscription 30.00
 prices 0 main projected 24.50 last 24.60 bid 24.40 offer 24.60
 prices 0 foreign projected 25.00
 prices 1 main projected 100.00
@@ -57,9 +60,18 @@ order 1 no 1 security 1 main sell ato x 100 front
 
 /// A desk with 32 rows; every third of them is cancelled, and of the others
 /// every fifth is of an MP order. The best prices are beside those of the rows.
+/// Of the other securities one has a prior close below 1.00 and one just that.
 fn full() -> String {
-    let mut text =
-        String::from("clock 14:00:00\nsession open\nprices 0 main bid 50.00 offer 60.00\n");
+    let mut text = String::from(
+        "\
+clock 14:00:00
+session open
+prices 0 main bid 50.00 offer 60.00
+setup 1 lot 100 close 0.99
+figures 1 old 1 new 65535 dividend 0.98
+setup 2 lot 100 close 1.00
+",
+    );
     for number in 1..=32 {
         let is_cancelled = number % 3 == 0;
         let satang = 50_00 + 25 * number;
@@ -121,6 +133,12 @@ pub fn events_for(words: &[u32]) -> Vec<Vec<u8>> {
 setup 0 lot 100 free close 50.00
 setup 1 lot 1 first-day close 10.00 ipo 10.01
 setup 2 lot 50 close 65.60
+figures 0 old 2 new 3 dividend 1.00 subscription 10.00
+figures 1 old 1 new 0 dividend 0.01
+figures 2 old 65535 new 65535 dividend 0.50 subscription 42949672.95
+figures 2 old 0 new 1
+figures 3 old 0 new 1
+figures 2 old 1 new 1 dividend 42949672.95
 prices 0 main projected 50.00 last 50.00
 prices 1 foreign offer 10.00
 prices 2 main last 400.00 bid 398.00
@@ -134,6 +152,8 @@ order 1 no 99 security 1 main buy limit 14.00 x 100 online
 order 1 no 99 security 2 main sell limit 400.00 x 100 dma
 order 1 no 99 security 2 main buy limit 68.00 x 100 online
 order 1 no 99 security 2 main buy limit 63.00 x 100 dma
+order 1 no 99 security 2 main buy limit 1.30 x 100 dma
+order 1 no 99 security 1 main sell limit 2.00 x 100 front
 order 0 no 99 security 0 main buy limit 50.00 x 0 dma
 cancel 0 no 1
 cancel 0 no 2
@@ -168,6 +188,7 @@ mod tests {
             Event::Clock { .. } | Event::Session { .. } => vec![],
             Event::Setup(setup) => vec![("security", setup.security)],
             Event::Prices(prices) => vec![("security", prices.security)],
+            Event::Figures(figures) => vec![("security", figures.security)],
             Event::Order(order) => {
                 vec![("customer", order.customer), ("security", order.security)]
             }
@@ -184,7 +205,7 @@ mod tests {
         for (_, base) in bases() {
             let all: Vec<_> = events_for(&base).iter().flat_map(|e| named(e)).collect();
             for security in 0..SECURITIES {
-                for kind in [3, 4, 5] {
+                for kind in [3, 4, 5, 9] {
                     assert!(all.contains(&(kind, "security", security)));
                 }
             }

@@ -12,6 +12,7 @@ pub fn number(answer: Answer) -> u32 {
         Answer::Accept => 100,
         Answer::Warn10 => 110,
         Answer::Warn30 => 130,
+        Answer::Reject(Rule::C) => 203,
         Answer::Reject(Rule::P) => 216,
         Answer::Reject(Rule::Q) => 217,
         Answer::Reject(Rule::S) => 219,

@@ -287,7 +287,7 @@ mod tests {
     use second::gate;
 
     use super::*;
-    use crate::places::{EDGES, place};
+    use crate::places::{EDGES, is_in_range, place};
 
     /// How many events of a history are such, by the words that they leave and
     /// their answer.
@@ -313,6 +313,19 @@ mod tests {
         })
     }
 
+    /// Orders at an edge of the day's range, and with C or without it.
+    fn at_range_edges(subject: &Subject) -> usize {
+        count(subject, |words, event, answer| {
+            is_in_range(place(words, event, number(answer)))
+        })
+    }
+
+    fn figures(subject: &Subject) -> usize {
+        count(subject, |_, event, answer| {
+            event.first() == Some(&9) && answer == Answer::Ok
+        })
+    }
+
     /// A lone run is compared over rests only if its history has some.
     #[test]
     fn histories_have_rests() {
@@ -321,6 +334,17 @@ mod tests {
         let by_all: usize = (0..20).map(|_| rests(&over_every_desk(&mut random))).sum();
         assert!(by_few > 100, "{by_few}");
         assert!(by_all > 20, "{by_all}");
+    }
+
+    #[test]
+    fn histories_have_figures_and_orders_at_the_edges_of_ranges() {
+        let mut random = Random::new(1);
+        for wanted in [figures, at_range_edges] {
+            let by_few: usize = (0..60).map(|_| wanted(&by_a_few(&mut random))).sum();
+            let by_all: usize = (0..20).map(|_| wanted(&over_every_desk(&mut random))).sum();
+            assert!(by_few > 100, "{by_few}");
+            assert!(by_all > 50, "{by_all}");
+        }
     }
 
     #[test]

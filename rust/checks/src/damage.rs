@@ -6,12 +6,14 @@ use second::event::{Event, Order, decode};
 use second::ladder::Nearest;
 
 use crate::bases::{SECURITIES, bases, events_for};
-use crate::layout::{CLOCK, PRIOR_CLOSE, fresh, meaning, row_start, security_start};
+use crate::layout::security_start;
+use crate::layout::{CLOCK, FIGURES, PRIOR_CLOSE, desk_start, fresh, meaning, row_start};
 use crate::prices::{nearest, step};
 use crate::program::Program;
+use crate::ranges;
 
 /// At, below and above what any field may hold.
-const VALUES: [u32; 45] = [
+const VALUES: [u32; 47] = [
     0,
     1,
     2,
@@ -46,6 +48,8 @@ const VALUES: [u32; 45] = [
     400_01,
     60_000,
     60_001,
+    65_535,
+    65_536,
     9_999_999,
     10_000_000,
     10_000_001,
@@ -79,16 +83,17 @@ pub fn run(program: &mut Program) {
                 let mut damaged = base.clone();
                 damaged[place] = value;
                 let securities = base[1] as usize;
-                program.each(
-                    format_args!("{name}, {} is {value}", meaning(place, securities)),
-                    &damaged,
-                    &events,
-                );
+                let name = format!("{name}, {} is {value}", meaning(place, securities));
+                program.each(format_args!("{name}"), &damaged, &events);
+                if place < desk_start(securities, 0) {
+                    ranges::compare(program, &name, &damaged, 0..=SECURITIES);
+                }
             }
         }
     }
     rows_of_each_type(program);
     prior_closes(program);
+    figures(program);
     other_counts(program);
     wrong_lengths(program);
 }
@@ -155,6 +160,57 @@ fn prior_closes(program: &mut Program) {
     }
 }
 
+/// A prior close and the four words of kind 9, every choice of one with every
+/// choice of the others: whether they are sound hangs on all five.
+fn figures(program: &mut Program) {
+    let security = 2;
+    for (name, base) in bases() {
+        let events = events_for(&base);
+        let eights: Vec<Option<u32>> = events
+            .iter()
+            .map(|event| reads(event, security).then_some(8))
+            .collect();
+        let record = security_start(security.into());
+        for close in [0, 1, 99, 1_00, 65_60, 10_000_000] {
+            for words in figures_around(close) {
+                let mut damaged = base.clone();
+                damaged[record + PRIOR_CLOSE] = close;
+                damaged[record + FIGURES..][..4].copy_from_slice(&words);
+                let name = format!("{name}, prior close {close}, figures {words:?}");
+                if is_sound(close, words) {
+                    program.each(format_args!("{name}"), &damaged, &events);
+                } else {
+                    program.case_expecting(format_args!("{name}"), &damaged, &events, &eights);
+                }
+                ranges::compare(program, &name, &damaged, 0..=SECURITIES);
+            }
+        }
+    }
+}
+
+fn figures_around(close: u32) -> Vec<[u32; 4]> {
+    let mut all = Vec::new();
+    for dividend in [0, close.saturating_sub(1), close, u32::MAX] {
+        for subscription in [0, 1, u32::MAX] {
+            for old in [0, 1, 65_535, 65_536, u32::MAX] {
+                for new in [0, 1, 65_535, 65_536, u32::MAX] {
+                    all.push([dividend, subscription, old, new]);
+                }
+            }
+        }
+    }
+    all.sort_unstable();
+    all.dedup();
+    all
+}
+
+/// "they are sound if all zero or as kind 9 could have set them" (paper 02); the
+/// event has two bytes each for the shares.
+fn is_sound(close: u32, [dividend, subscription, old, new]: [u32; 4]) -> bool {
+    let is_zero = [dividend, subscription, old, new] == [0; 4];
+    is_zero || dividend < close && (1..=65_535).contains(&old) && new <= 65_535
+}
+
 /// Ten and eleven positions up from the lower and down from the upper position,
 /// by a customer with rows and by one without.
 fn orders_at_the_edges(security: u16, close: u32) -> Vec<Vec<u8>> {
@@ -188,20 +244,21 @@ fn reads(event: &[u8], security: u16) -> bool {
         Ok(Event::Setup(setup)) => setup.security == security,
         Ok(Event::Prices(prices)) => prices.security == security,
         Ok(Event::Order(order)) => order.security == security,
+        Ok(Event::Figures(figures)) => figures.security == security,
         _ => false,
     }
 }
 
-/// 13 customers less and 291 securities more take as many words: the header is
+/// 17 customers less and 291 securities more take as many words: the header is
 /// sound, and what follows it is read in other places.
 fn other_counts(program: &mut Program) {
     for (name, base) in bases() {
         let events = events_for(&base);
-        let mut many = fresh(14, 1);
+        let mut many = fresh(18, 1);
         let shared = many.len().min(base.len());
         many[4..shared].copy_from_slice(&base[4..shared]);
         many[2..4].copy_from_slice(&base[2..4]);
-        for (customers, securities) in [(14, 1), (1, 292)] {
+        for (customers, securities) in [(18, 1), (1, 292)] {
             many[..2].copy_from_slice(&[customers, securities]);
             program.each(
                 format_args!("{name}, as of {customers} customers"),
@@ -219,14 +276,14 @@ fn wrong_lengths(program: &mut Program) {
         events.extend([
             vec![],
             vec![0],
-            vec![8, 1],
             vec![9, 1],
+            vec![10, 1],
             vec![2],
             vec![255; 40],
         ]);
         let mut longer = base.clone();
         longer.push(0);
-        let lengths = [0, 1, 2, 3, 4, 17, 308, base.len() - 1, base.len() + 1];
+        let lengths = [0, 1, 2, 3, 4, 21, 312, base.len() - 1, base.len() + 1];
         for length in lengths {
             program.each(
                 format_args!("{name}, {length} words"),

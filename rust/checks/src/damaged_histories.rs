@@ -7,10 +7,11 @@ use second::{encode, gate};
 
 use crate::bases::{bases, events_for};
 use crate::histories::sizes;
-use crate::layout::{PRIOR_CLOSE, SESSION, fresh, row_start, security_start};
+use crate::layout::{FIGURES, PRIOR_CLOSE, SESSION, fresh, row_start, security_start};
 use crate::mixture::MIXTURES;
 use crate::program::Program;
 use crate::random::Random;
+use crate::ranges;
 use crate::wide::{self, Wide};
 use crate::writer::Writer;
 
@@ -42,11 +43,9 @@ fn by_a_few(program: &mut Program, random: &mut Random) {
             damage_word(random, &mut damaged, securities as usize, customer);
         }
         let events: Vec<Vec<u8>> = (0..10).map(|_| writer.event()).collect();
-        program.case(
-            format_args!("{}, damage {damage}, events in turn", mixture.name),
-            &damaged,
-            &events,
-        );
+        let name = format!("{}, damage {damage}", mixture.name);
+        program.case(format_args!("{name}, events in turn"), &damaged, &events);
+        ranges::compare(program, &name, &damaged, 0..=securities);
         // The events went on from sound words, and so do the next ones.
         for event in &events {
             gate::handle(&mut words, event);
@@ -69,11 +68,9 @@ fn over_every_desk(program: &mut Program, random: &mut Random) {
         let session = words[SESSION] as u8;
         let mut events = vec![encode::session(session), encode::session((session + 1) % 5)];
         events.extend((0..6).map(|_| wide.writer.event()));
-        program.each(
-            format_args!("every desk, {customers} customers, damage {damage}"),
-            &damaged,
-            &events,
-        );
+        let name = format!("every desk, {customers} customers, damage {damage}");
+        program.each(format_args!("{name}"), &damaged, &events);
+        ranges::compare(program, &name, &damaged, 0..=securities);
     }
 }
 
@@ -92,8 +89,10 @@ fn many_words(program: &mut Program, random: &mut Random) {
 /// One word anywhere, mostly in the first rows of this customer, mostly by
 /// little.
 fn damage_word(random: &mut Random, words: &mut [u32], securities: usize, customer: usize) {
-    if random.once_in(10) {
-        return damage_prior_close(random, words, securities);
+    match random.below(10) {
+        0 => return damage_prior_close(random, words, securities),
+        1 => return damage_figures(random, words, securities),
+        _ => {}
     }
     let place = match random.below(8) {
         0 => random.place(words.len()),
@@ -117,5 +116,20 @@ fn damage_prior_close(random: &mut Random, words: &mut [u32], securities: usize)
         1 => random.below(10_000_001),
         2 => words[place].wrapping_sub(1),
         _ => words[place].wrapping_add(1),
+    };
+}
+
+/// One of the four words, at an edge of what is sound, or by little.
+fn damage_figures(random: &mut Random, words: &mut [u32], securities: usize) {
+    let start = security_start(random.place(securities));
+    let close = words[start + PRIOR_CLOSE];
+    let word = random.place(4);
+    let place = start + FIGURES + word;
+    words[place] = match (word, random.below(4)) {
+        (_, 0) => words[place].wrapping_sub(1),
+        (_, 1) => words[place].wrapping_add(1),
+        (0, _) => close.wrapping_sub(random.below(2)),
+        (1, _) => random.word(),
+        _ => random.pick(&[0, 1, 65_535, 65_536]),
     };
 }

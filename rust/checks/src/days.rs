@@ -53,12 +53,13 @@ mod tests {
             assert!(lines(listing).len() > 900);
         }
         let all: Vec<(&str, &str)> = listings.iter().flat_map(|text| lines(text)).collect();
-        for kind in 1..=8 {
+        for kind in 1..=9 {
             assert!(all.iter().any(|line| line.0 == kind.to_string()));
         }
-        let verdicts = "ok,accept,warn 10,warn 30,reject S,reject V,reject Q,reject W,reject P";
+        let verdicts =
+            "ok,accept,warn 10,warn 30,reject S,reject V,reject C,reject Q,reject W,reject P";
         // 1 and 8 never come from a fresh state, and 2 or 3 would end a listing.
-        let refusals = [4, 5, 6, 7, 9, 10, 11, 12].map(|number| format!("refused {number}"));
+        let refusals = [4, 5, 6, 7, 9, 10, 11, 12, 13].map(|number| format!("refused {number}"));
         let expected: Vec<&str> = verdicts
             .split(',')
             .chain(refusals.iter().map(String::as_str))

@@ -10,6 +10,8 @@ pub const CLOCK: usize = 2;
 pub const SESSION: usize = 3;
 /// In a security's record.
 pub const PRIOR_CLOSE: usize = 3;
+/// The first of the four words that kind 9 sets.
+pub const FIGURES: usize = 13;
 
 const HEADER: [&str; HEADER_WORDS] = ["customers", "securities", "clock", "session"];
 const SECURITY: [&str; SECURITY_WORDS] = [
@@ -26,6 +28,10 @@ const SECURITY: [&str; SECURITY_WORDS] = [
     "foreign board, last sale",
     "foreign board, bid",
     "foreign board, offer",
+    "dividend",
+    "subscription price",
+    "old shares",
+    "new shares",
 ];
 const COUNTERS: [&str; COUNTER_WORDS] = ["accepted", "warned", "rejected"];
 const ROW: [&str; ROW_WORDS] = [
@@ -94,6 +100,8 @@ mod tests {
             (security_start(0), "security 0, lot"),
             (security_start(0) + PRIOR_CLOSE, "security 0, prior close"),
             (security_start(1) + 12, "security 1, foreign board, offer"),
+            (security_start(1) + FIGURES, "security 1, dividend"),
+            (security_start(1) + FIGURES + 3, "security 1, new shares"),
             (desk_start(2, 0), "customer 0, accepted"),
             (desk_start(2, 1) + 2, "customer 1, rejected"),
             (row_start(2, 1, 0), "customer 1, row 0, mark"),

@@ -50,7 +50,7 @@ pub fn random(program: &mut Program) {
     for (name, base) in &bases {
         let events: Vec<Vec<u8>> = (0..500)
             .map(|_| {
-                let kind = random.below(10) as u8;
+                let kind = random.below(11) as u8;
                 let whole = second::event::length(kind).filter(|_| !random.once_in(6));
                 let length = whole.unwrap_or_else(|| random.place(LONGEST));
                 let largest = random.pick(&[2, 4, 6, 101, 256]);

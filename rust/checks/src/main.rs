@@ -9,6 +9,7 @@ mod customers;
 mod damage;
 mod damaged_histories;
 mod days;
+mod figures;
 mod histories;
 mod ladder;
 mod layout;
@@ -22,6 +23,9 @@ mod prices;
 mod prior_closes;
 mod program;
 mod random;
+mod range_orders;
+mod range_places;
+mod ranges;
 mod references;
 mod repeats;
 mod report;
@@ -44,7 +48,7 @@ use program::Program;
 type Group = (&'static str, fn(&mut Program));
 
 /// Cases that are the same in every run of one seed.
-const FIXED: [Group; 13] = [
+const FIXED: [Group; 15] = [
     ("edges", |program| {
         script::run(program, "edges.txt", include_str!("../cases/edges.txt"))
     }),
@@ -80,6 +84,8 @@ const FIXED: [Group; 13] = [
     ("repeats", repeats::run),
     ("references", references::run),
     ("prior-closes", prior_closes::run),
+    ("ranges", ranges::run),
+    ("range-orders", range_orders::run),
     ("lengths", lengths::fixed),
     ("damage", damage::run),
     ("ladder", ladder::run),

@@ -8,7 +8,7 @@ use crate::both::{Lent, number};
 use crate::program::Program;
 use crate::report::first_wrong;
 
-const CUSTOMERS: [u32; 9] = [0, 1, 2, 13, 255, 256, 257, 1 << 16, u32::MAX];
+const CUSTOMERS: [u32; 9] = [0, 1, 2, 17, 255, 256, 257, 1 << 16, u32::MAX];
 const SECURITIES: [u32; 9] = [0, 1, 2, 291, 1_023, 1_024, 1_025, 1 << 16, u32::MAX];
 
 pub fn run(program: &mut Program) {
@@ -20,7 +20,7 @@ pub fn run(program: &mut Program) {
         }
     }
     let (customers, securities) = wrapping_counts();
-    one(program, customers, securities, 4 + 13 + 291);
+    one(program, customers, securities, 4 + 17 + 291);
     let mut random = program.random();
     for _ in 0..200 {
         let (customers, securities) = (1 + random.below(256), 1 + random.below(1_024));
@@ -32,22 +32,22 @@ pub fn run(program: &mut Program) {
 
 /// The right count of words where it is not beyond all bounds, and wrong ones.
 fn lengths(customers: u32, securities: u32) -> Vec<usize> {
-    let right = 4 + 13 * u64::from(securities) + 291 * u64::from(customers);
-    let mut lengths = vec![0, 1, 3, 4, 4 + 13 + 291];
+    let right = 4 + 17 * u64::from(securities) + 291 * u64::from(customers);
+    let mut lengths = vec![0, 1, 3, 4, 4 + 17 + 291];
     if right < 1 << 20 {
         let right = right as usize;
-        lengths.extend([right - 1, right, right + 1, right + 13, right + 291]);
+        lengths.extend([right - 1, right, right + 1, right + 17, right + 291]);
     }
     lengths
 }
 
-/// Two customers and so many securities that 4 + 13 S + 291 C is right for one
+/// Two customers and so many securities that 4 + 17 S + 291 C is right for one
 /// of each where the sum wraps at 32 bits.
 fn wrapping_counts() -> (u32, u32) {
-    const INVERSE_OF_13: u32 = 3_303_820_997;
+    const INVERSE_OF_17: u32 = 4_042_322_161;
     let customers = 2;
-    let rest = (13 + 291_u32).wrapping_sub(291 * customers);
-    (customers, rest.wrapping_mul(INVERSE_OF_13))
+    let rest = (17 + 291_u32).wrapping_sub(291 * customers);
+    (customers, rest.wrapping_mul(INVERSE_OF_17))
 }
 
 fn one(program: &mut Program, customers: u32, securities: u32, length: usize) {

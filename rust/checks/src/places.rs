@@ -1,47 +1,73 @@
 //! Under what an event is counted, and the answers that may come there.
 
 use second::codes::{Board, Channel, OrderType, is_lot};
-use second::event::{Event, Order, Setup, decode};
+use second::event::{Event, Figures, Order, Setup, decode};
 use second::ladder::{self, LAST_PRICE};
 use second::state::{Header, MAX_IPO, Security};
 
 use crate::both::number;
+use crate::range_places::{self, RANGE_PLACES, RANGE_POSSIBLE};
 
-/// Kinds 1 to 8 under their numbers, unknown kinds under 0, no bytes under 9.
+/// Kinds 1 to 9 under their numbers, unknown kinds under 0, no bytes under 10.
 const SETUP: usize = 3;
 const ORDER: usize = 5;
-const EMPTY: usize = 9;
+const FIGURES: usize = 9;
+const EMPTY: usize = 10;
 /// Whole MP orders are counted apart from the other events of kind 5: only so
 /// is it seen that refusal 12 came from them.
-const MP_ORDER: usize = 10;
+const MP_ORDER: usize = 11;
 /// Setups that are right but for the prior close, which is between two steps or
 /// above 10,000,000.
-const CLOSE_BETWEEN: usize = 11;
-const CLOSE_BEYOND: usize = 12;
+const CLOSE_BETWEEN: usize = 12;
+const CLOSE_BEYOND: usize = 13;
 /// Orders whose verdict was warn 10's to give, by a prior close between two
 /// steps: so many positions up from the lower, or down from the upper position.
-const TEN_UP: usize = 13;
-const ELEVEN_UP: usize = 14;
-const TEN_DOWN: usize = 15;
-const ELEVEN_DOWN: usize = 16;
-pub const PLACES: usize = 17;
+const TEN_UP: usize = 14;
+const ELEVEN_UP: usize = 15;
+const TEN_DOWN: usize = 16;
+const ELEVEN_DOWN: usize = 17;
+/// Figures that a sound security does not take: without old shares, with a
+/// dividend not below its prior close, or where it has none.
+const NO_OLD_SHARES: usize = 18;
+const DIVIDEND_TOO_HIGH: usize = 19;
+const NO_PRIOR_CLOSE: usize = 20;
+/// From here on, orders by where they stand in the day's range.
+const IN_RANGE: usize = 21;
+pub const PLACES: usize = IN_RANGE + RANGE_PLACES;
+
+/// Is this a place of orders at an edge of the day's range?
+#[cfg(test)]
+pub fn is_in_range(place: usize) -> bool {
+    place >= IN_RANGE
+}
 
 #[cfg(test)]
 pub const EDGES: [usize; 4] = [TEN_UP, ELEVEN_UP, TEN_DOWN, ELEVEN_DOWN];
 
 /// The answers that each of them can get, by the papers.
-pub const POSSIBLE: [&[u32]; PLACES] = [
+pub const POSSIBLE: [&[u32]; PLACES] = possible();
+
+const fn possible() -> [&'static [u32]; PLACES] {
+    let mut all: [&[u32]; PLACES] = [&[]; PLACES];
+    let (kinds, ranges) = all.split_at_mut(IN_RANGE);
+    kinds.copy_from_slice(&OF_KINDS);
+    ranges.copy_from_slice(&RANGE_POSSIBLE);
+    all
+}
+
+const OF_KINDS: [&[u32]; IN_RANGE] = [
     &[1, 3],
     &[0, 1, 2, 5, 7],
     &[0, 1, 2, 5, 8],
     &[0, 1, 2, 4, 5, 6, 8],
     &[0, 1, 2, 4, 5, 6, 8],
     &[
-        1, 2, 4, 5, 6, 8, 9, 12, 100, 110, 130, 216, 217, 219, 222, 223,
+        1, 2, 4, 5, 6, 8, 9, 12, 100, 110, 130, 203, 216, 217, 219, 222, 223,
     ],
     &[0, 1, 2, 4, 5, 8, 10],
     &[0, 1, 2, 4, 5, 8, 10, 11],
     &[0, 1, 2, 4, 5, 6, 8, 10],
+    &[0, 1, 2, 4, 8],
     &[1, 2],
     &[1, 4, 5, 6, 8, 9, 12, 100, 219, 222, 223],
     &[0, 8],
@@ -50,17 +76,22 @@ pub const POSSIBLE: [&[u32]; PLACES] = [
     &[110],
     &[100],
     &[110],
+    &[13],
+    &[13],
+    &[13],
 ];
 
 /// Where an event is counted that got this answer and left these words. A setup
-/// leaves the header, and an order also every security, as it met them.
+/// leaves the header, an order also every security, and figures leave the prior
+/// close, as they met them.
 pub fn place(words: &[u32], event: &[u8], answer: u32) -> usize {
     match decode(event) {
         Ok(Event::Setup(setup)) => of_setup(words, &setup).unwrap_or(SETUP),
         Ok(Event::Order(order)) => of_order(words, &order, answer).unwrap_or(ORDER),
+        Ok(Event::Figures(figures)) => of_figures(words, &figures).unwrap_or(FIGURES),
         _ => match event.first() {
             None => EMPTY,
-            Some(&kind @ 1..=8) => usize::from(kind),
+            Some(&kind @ 1..=9) => usize::from(kind),
             Some(_) => 0,
         },
     }
@@ -80,13 +111,38 @@ fn of_setup(words: &[u32], setup: &Setup) -> Option<usize> {
     }
 }
 
+/// `None` also where the record is not sound: 8 comes before 13.
+fn of_figures(words: &[u32], figures: &Figures) -> Option<usize> {
+    let security = security(words, figures.security)?;
+    if security.prior_close == 0 {
+        Some(NO_PRIOR_CLOSE)
+    } else if figures.old == 0 {
+        Some(NO_OLD_SHARES)
+    } else {
+        (figures.dividend >= security.prior_close).then_some(DIVIDEND_TOO_HIGH)
+    }
+}
+
 fn of_order(words: &[u32], order: &Order, answer: u32) -> Option<usize> {
     use second::answer::Answer::{Accept, Warn10};
     if order.order_type == OrderType::Mp as u8 {
         return Some(MP_ORDER);
     }
     let no_rule_before = [number(Accept), number(Warn10)].contains(&answer);
-    (no_rule_before && is_for_warn_10(order)).then(|| from_adjusted_close(words, order))?
+    if no_rule_before
+        && is_for_warn_10(order)
+        && let Some(place) = from_adjusted_close(words, order)
+    {
+        return Some(place);
+    }
+    let security = security(words, order.security)?;
+    range_places::place(&security, order, answer).map(|place| IN_RANGE + place)
+}
+
+/// `None` if there is no such security, or its record is not sound.
+fn security(words: &[u32], security: u16) -> Option<Security> {
+    let place = Header::read(words)?.security_place(security.into())?;
+    Security::read(&words[place])
 }
 
 fn is_for_warn_10(order: &Order) -> bool {
@@ -99,7 +155,7 @@ fn is_for_warn_10(order: &Order) -> bool {
 /// the order does not stand at an edge.
 fn from_adjusted_close(words: &[u32], order: &Order) -> Option<usize> {
     let header = Header::read(words)?;
-    let security = Security::read(&words[header.security_place(order.security.into())?])?;
+    let security = security(words, order.security)?;
     let is_by_close = security.main.projected == 0 && security.main.last == 0;
     if !header.session.gathers() || !is_by_close {
         return None;
@@ -126,6 +182,10 @@ pub fn place_words(place: usize) -> String {
         ELEVEN_UP => "orders eleven positions up from an adjusted close".into(),
         TEN_DOWN => "orders ten positions down from an adjusted close".into(),
         ELEVEN_DOWN => "orders eleven positions down from an adjusted close".into(),
+        NO_OLD_SHARES => "figures without old shares".into(),
+        DIVIDEND_TOO_HIGH => "figures with a dividend not below the prior close".into(),
+        NO_PRIOR_CLOSE => "figures for a security without a prior close".into(),
+        IN_RANGE.. => range_places::words(place - IN_RANGE).into(),
         _ => format!("kind {place}"),
     }
 }
@@ -161,6 +221,21 @@ mod tests {
             ("setup 0 lot 100 close 65.60 ipo 100000.01", SETUP),
         ] {
             assert_eq!(last_place(line), expected, "{line}");
+        }
+    }
+
+    #[test]
+    fn figures_by_what_is_wrong() {
+        let market = "setup 0 lot 100 close 50.00\n";
+        for (line, expected) in [
+            ("figures 0 old 1 new 1 dividend 49.99", FIGURES),
+            ("figures 0 old 1 new 1 dividend 50.00", DIVIDEND_TOO_HIGH),
+            ("figures 0 old 0 new 1 dividend 50.00", NO_OLD_SHARES),
+            ("setup 0 lot 100\nfigures 0 old 0 new 1", NO_PRIOR_CLOSE),
+            ("figures 1 old 0 new 1", FIGURES),
+        ] {
+            let lines = market.to_owned() + line;
+            assert_eq!(last_place(&lines), expected, "{line}");
         }
     }
 

@@ -2,6 +2,7 @@
 
 use second::codes::{Board, OrderType};
 use second::ladder::{self, FIRST_PRICE, LAST_PRICE, Nearest, POSITIONS};
+use second::range::Range;
 use second::state::{MAX_VOLUME, Row, Security};
 
 use crate::random::Random;
@@ -10,10 +11,11 @@ use crate::random::Random;
 const MAX_VALUE: u64 = 500_000_000_00;
 const REPEAT_VALUE: u64 = 3_000_000_00;
 
-/// Positions beside which the step changes, the two ends, and some between.
-const MIDDLES: [u32; 20] = [
-    1, 12, 150, 199, 200, 349, 350, 449, 450, 500, 595, 600, 700, 899, 900, 1_099, 1_100, 1_300,
-    2_000, 51_100,
+/// Positions beside which the step changes, 1.00 baht, the two ends, and some
+/// between.
+const MIDDLES: [u32; 21] = [
+    1, 12, 100, 150, 199, 200, 349, 350, 449, 450, 500, 595, 600, 700, 899, 900, 1_099, 1_100,
+    1_300, 2_000, 51_100,
 ];
 
 /// A position around which a security trades.
@@ -81,7 +83,22 @@ pub fn price_near(random: &mut Random, security: &Security, board: Board, middle
         .into_iter()
         .find(|&price| price != 0);
     let position = first.map_or(middle, position_at_or_below);
-    step(position, random.below(3) as i32 - 1)
+    let price = step(position, random.below(3) as i32 - 1);
+    match range_on(security, board) {
+        Some(range) => price.min(range.ceiling).max(range.floor),
+        None => price,
+    }
+}
+
+/// The range that an order on this board meets.
+fn range_on(security: &Security, board: Board) -> Option<Range> {
+    Range::of(security).filter(|_| board == Board::Main)
+}
+
+/// At the floor or the ceiling, or one step inside or outside.
+fn beside_edge(random: &mut Random, range: Range) -> u32 {
+    let edge = random.pick(&[range.floor, range.ceiling]);
+    step(position_at_or_below(edge), random.below(3) as i32 - 1)
 }
 
 /// The price of a limit order: at or near one of the prices it is compared with.
@@ -93,8 +110,13 @@ pub fn limit_price(
     middle: u32,
 ) -> u32 {
     let quotes = security.quotes(board);
-    if warn_10_takes_adjusted_close(security) && random.once_in(3) {
+    if board == Board::Main && warn_10_takes_adjusted_close(security) && random.once_in(2) {
         return ten_or_eleven_from(random, security.prior_close);
+    }
+    if let Some(range) = range_on(security, board)
+        && random.once_in(2)
+    {
+        return beside_edge(random, range);
     }
     let row = (!rows.is_empty()).then(|| random.pick(rows).price);
     let compared: Vec<u32> = [

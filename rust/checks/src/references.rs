@@ -1,7 +1,8 @@
 //! Rules Q, warn 30 and warn 10: orders on both sides of each bound, of a free
 //! security, online or DMA, from every reference price up to 400.00 and many
 //! above, whatever the reference is taken from. At every seventh of these prices
-//! also by the front office, and of a security that is not free.
+//! also by the front office, and of a security that is not free: there C draws
+//! the bounds of 70% and 130% from the prior close.
 
 use second::encode;
 use second::event::{Order, Prices, Setup};

@@ -28,7 +28,7 @@ pub fn run(program: &mut Program) {
         .filter(|event| event::decode(event).is_ok())
         .collect();
     let mut streams = vec![vec![], whole.concat(), history.concat()];
-    for kind in 0..10 {
+    for kind in 0..=10 {
         // An unknown kind or a cut event at the end.
         let mut cut = whole[..random.place(whole.len())].concat();
         cut.extend([kind, 0, 0, 0]);
@@ -36,7 +36,7 @@ pub fn run(program: &mut Program) {
     }
     streams.push(
         (0..random.below(400))
-            .map(|_| random.below(10) as u8)
+            .map(|_| random.below(11) as u8)
             .collect(),
     );
     for stream in &streams {
@@ -58,11 +58,12 @@ fn lists(program: &mut Program, random: &mut Random, start: &[u32], history: &[V
     for broken in [
         &[][..],
         &[0],
-        &[9, 1],
+        &[10, 1],
         &[2],
         &[2, 2, 2],
         &[6, 0, 0],
         &[8, 0, 0],
+        &[9, 0, 0, 0],
     ] {
         events.insert(random.place(events.len()), broken);
     }

@@ -63,6 +63,7 @@ impl Wide {
         };
         for _ in 0..MARKET_EVENTS.min(2 * securities) {
             wide.events.push(wide.writer.new_setup());
+            wide.events.push(wide.writer.new_figures());
             wide.events.push(wide.writer.new_prices());
         }
         for auction in wide.random.pick(&AUCTIONS) {

@@ -7,6 +7,7 @@ use second::ladder::LAST_PRICE;
 use second::state::{CANCEL_MEMORY, Desk, Header, LAST_TIME, Mark, Row, Security};
 use second::{encode, gate};
 
+use crate::figures::any_figures;
 use crate::layout::fresh;
 use crate::malformed::malformed;
 use crate::mixture::{Kind, Mixture};
@@ -121,6 +122,11 @@ impl Writer {
         self.keep(event)
     }
 
+    pub fn new_figures(&mut self) -> Vec<u8> {
+        let event = self.figures();
+        self.keep(event)
+    }
+
     pub fn new_prices(&mut self) -> Vec<u8> {
         let event = self.prices();
         self.keep(event)
@@ -187,6 +193,7 @@ impl Writer {
             Kind::Session => encode::session(self.random.pick(self.mixture.sessions) as u8),
             Kind::Setup => self.setup(),
             Kind::Prices => self.prices(),
+            Kind::Figures => self.figures(),
             Kind::Order => self.order(),
             Kind::Repeat => self.repeat(),
             Kind::Cancel => self.cancel(),
@@ -286,7 +293,8 @@ impl Writer {
         encode::setup(&Setup {
             security,
             lot: random.pick(&[100, 100, 100, 50, 1]),
-            free: u8::from(!random.once_in(3)),
+            // Q and warn 30 are for free securities, C is for the others.
+            free: random.below(2) as u8,
             first_day: random.below(2) as u8,
             prior_close: prior_close(random, middle),
             ipo,
@@ -313,6 +321,12 @@ impl Writer {
             bid: market_price(random, middle),
             offer: market_price(random, middle),
         })
+    }
+
+    fn figures(&mut self) -> Vec<u8> {
+        let (security, _) = self.random.pick(&self.securities);
+        let close = self.security(security).prior_close;
+        encode::figures(&any_figures(&mut self.random, security, close))
     }
 
     fn order(&mut self) -> Vec<u8> {

@@ -7,6 +7,7 @@ use std::fmt;
 pub enum Rule {
     S,
     V,
+    C,
     Q,
     W,
     P,
@@ -40,6 +41,7 @@ pub enum Refusal {
     NoOpenRow = 10,
     MatchVolume = 11,
     DeskFull = 12,
+    Figures = 13,
 }
 
 impl From<Refusal> for Answer {
@@ -53,6 +55,7 @@ impl fmt::Display for Rule {
         f.write_str(match self {
             Rule::S => "S",
             Rule::V => "V",
+            Rule::C => "C",
             Rule::Q => "Q",
             Rule::W => "W",
             Rule::P => "P",
@@ -86,11 +89,13 @@ mod tests {
             (Answer::Warn10, "warn 10"),
             (Answer::Reject(Rule::S), "reject S"),
             (Answer::Reject(Rule::V), "reject V"),
+            (Answer::Reject(Rule::C), "reject C"),
             (Answer::Reject(Rule::Q), "reject Q"),
             (Answer::Reject(Rule::W), "reject W"),
             (Answer::Reject(Rule::P), "reject P"),
             (Answer::Refused(2), "refused 2"),
             (Refusal::NoOpenRow.into(), "refused 10"),
+            (Refusal::Figures.into(), "refused 13"),
         ];
         for (answer, word) in words {
             assert_eq!(answer.to_string(), word);

@@ -1,6 +1,6 @@
 //! Builds the bytes of events, for tests and for those who feed the gate.
 
-use crate::event::{Event, Order, Prices, Setup};
+use crate::event::{Event, Figures, Order, Prices, Setup};
 
 pub fn clock(time: u32) -> Vec<u8> {
     Bytes::of_kind(1).u32(time).done()
@@ -66,6 +66,16 @@ pub fn rest(customer: u16, number: u32, price: u32) -> Vec<u8> {
         .done()
 }
 
+pub fn figures(figures: &Figures) -> Vec<u8> {
+    Bytes::of_kind(9)
+        .u16(figures.security)
+        .u32(figures.dividend)
+        .u32(figures.subscription)
+        .u16(figures.old)
+        .u16(figures.new)
+        .done()
+}
+
 /// The bytes that [`crate::event::decode`] reads as this event.
 pub fn event(event: &Event) -> Vec<u8> {
     match event {
@@ -85,6 +95,7 @@ pub fn event(event: &Event) -> Vec<u8> {
             number,
             price,
         } => rest(*customer, *number, *price),
+        Event::Figures(fields) => figures(fields),
     }
 }
 
@@ -166,6 +177,13 @@ mod tests {
                 number: 0x0304_0506,
                 price: 0x0708_090a,
             },
+            Event::Figures(Figures {
+                security: 0x0102,
+                dividend: 0x0304_0506,
+                subscription: 0x0708_090a,
+                old: 0x0b0c,
+                new: 0x0d0e,
+            }),
         ];
         for fields in events {
             assert_eq!(decode(&event(&fields)), Ok(fields));

@@ -29,6 +29,7 @@ pub enum Event {
         number: u32,
         price: u32,
     },
+    Figures(Figures),
 }
 
 #[derive(Clone, Copy, Debug, PartialEq, Eq)]
@@ -64,8 +65,18 @@ pub struct Order {
     pub volume: u32,
 }
 
+/// What a right that has gone changes of the prior close (paper 02, request 3).
+#[derive(Clone, Copy, Debug, PartialEq, Eq)]
+pub struct Figures {
+    pub security: u16,
+    pub dividend: u32,
+    pub subscription: u32,
+    pub old: u16,
+    pub new: u16,
+}
+
 /// How many bytes an event of this kind takes, the kind byte included.
-/// `None` if the kind is not 1 to 8.
+/// `None` if the kind is not 1 to 9.
 pub fn length(kind: u8) -> Option<usize> {
     match kind {
         1 => Some(5),
@@ -75,6 +86,7 @@ pub fn length(kind: u8) -> Option<usize> {
         5 => Some(21),
         6 => Some(7),
         7 | 8 => Some(11),
+        9 => Some(15),
         _ => None,
     }
 }
@@ -138,6 +150,13 @@ fn decode_body(kind: u8, mut fields: Fields) -> Option<Event> {
             number: fields.u32()?,
             price: fields.u32()?,
         },
+        9 => Event::Figures(Figures {
+            security: fields.u16()?,
+            dividend: fields.u32()?,
+            subscription: fields.u32()?,
+            old: fields.u16()?,
+            new: fields.u16()?,
+        }),
         _ => return None,
     })
 }
@@ -244,6 +263,17 @@ mod tests {
                 number: 0x0e0d_0c0b,
                 price: 0x1211_100f,
             })
+        );
+        let bytes: Vec<u8> = (9..24).collect();
+        assert_eq!(
+            decode(&bytes),
+            Ok(Event::Figures(Figures {
+                security: 0x0b0a,
+                dividend: 0x0f0e_0d0c,
+                subscription: 0x1312_1110,
+                old: 0x1514,
+                new: 0x1716,
+            }))
         );
     }
 }

@@ -11,8 +11,8 @@ use crate::event::{self, Event};
 use crate::ladder;
 use crate::rules::{self, Order, Scene};
 use crate::state::{
-    DESK_WORDS, Desk, FRESH_LOT, Header, LAST_TIME, MAX_IPO, MAX_PRIOR_CLOSE, Mark, Quotes, ROWS,
-    Row, SECURITY_WORDS, Security, is_market_price, word_count,
+    DESK_WORDS, Desk, FRESH_LOT, Figures, Header, LAST_TIME, MAX_IPO, MAX_PRIOR_CLOSE, Mark,
+    Quotes, ROWS, Row, SECURITY_WORDS, Security, is_market_price, word_count,
 };
 
 /// Makes a fresh state of so many customers and securities.
@@ -58,6 +58,7 @@ fn handle_or_refuse(words: &mut [u32], event: &[u8]) -> Result<Answer, Refusal> 
             number,
             price,
         } => enter_rest(words, &header, customer, number, price),
+        Event::Figures(figures) => set_figures(words, &header, &figures),
     }
 }
 
@@ -127,6 +128,8 @@ fn set_up(words: &mut [u32], header: &Header, event: &event::Setup) -> Result<An
         first_day,
         prior_close: event.prior_close,
         ipo: event.ipo,
+        // Paper 02, request 3: "kind 3 clears it".
+        figures: None,
         ..security
     }
     .write(record);
@@ -154,6 +157,32 @@ fn set_prices(
         bid: event.bid,
         offer: event.offer,
     };
+    security.write(record);
+    Ok(Answer::Ok)
+}
+
+/// Conditions 4, 8 and 13 and no others: kind 9 has no code, and its numbers are
+/// no prices that a rule compares.
+fn set_figures(
+    words: &mut [u32],
+    header: &Header,
+    event: &event::Figures,
+) -> Result<Answer, Refusal> {
+    let place = header
+        .security_place(event.security.into())
+        .ok_or(Refusal::Name)?;
+    let record = &mut words[place];
+    let mut security = Security::read(record).ok_or(Refusal::Record)?;
+    let figures = Figures {
+        dividend: event.dividend,
+        subscription: event.subscription,
+        old: event.old,
+        new: event.new,
+    };
+    if !figures.fit(security.prior_close) {
+        return Err(Refusal::Figures);
+    }
+    security.figures = Some(figures);
     security.write(record);
     Ok(Answer::Ok)
 }

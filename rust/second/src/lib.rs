@@ -12,5 +12,6 @@ pub mod event;
 pub mod gate;
 pub mod ladder;
 pub mod lone;
+pub mod range;
 pub mod rules;
 pub mod state;

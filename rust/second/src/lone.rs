@@ -18,7 +18,7 @@ pub enum Owner {
 pub fn belongs(event: &[u8], customers: u32) -> Owner {
     match kind_of(event) {
         Err(_) => Owner::Nobody,
-        Ok(1..=4) => Owner::Market,
+        Ok(1..=4 | 9) => Owner::Market,
         Ok(_) => {
             let customer = field(event, 1, 2);
             if customer < customers {
@@ -32,11 +32,11 @@ pub fn belongs(event: &[u8], customers: u32) -> Owner {
 
 /// The kind of a whole event, or the refusal that its bytes get.
 fn kind_of(event: &[u8]) -> Result<u8, Answer> {
-    const LENGTHS: [usize; 8] = [5, 2, 14, 20, 21, 7, 11, 11];
+    const LENGTHS: [usize; 9] = [5, 2, 14, 20, 21, 7, 11, 11, 15];
     match event {
         [] => Err(Answer::Refused(2)),
-        [kind @ 1..=8, ..] if LENGTHS[usize::from(kind - 1)] == event.len() => Ok(*kind),
-        [1..=8, ..] => Err(Answer::Refused(2)),
+        [kind @ 1..=9, ..] if LENGTHS[usize::from(kind - 1)] == event.len() => Ok(*kind),
+        [1..=9, ..] => Err(Answer::Refused(2)),
         _ => Err(Answer::Refused(3)),
     }
 }
@@ -75,6 +75,16 @@ struct Listed {
     ipo: u32,
     /// Main board, then foreign board.
     boards: [Board; 2],
+    right: Right,
+}
+
+/// The figures of kind 9; all zero without them.
+#[derive(Clone, Copy, Debug, Default)]
+struct Right {
+    dividend: u32,
+    subscription: u32,
+    old: u32,
+    new: u32,
 }
 
 #[derive(Clone, Copy, Debug, Default)]
@@ -140,6 +150,7 @@ impl LoneRun {
             prior_close: 0,
             ipo: 0,
             boards: [Board::default(); 2],
+            right: Right::default(),
         };
         LoneRun {
             customers,
@@ -168,7 +179,8 @@ impl LoneRun {
             Ok(5) => self.order(event),
             Ok(6) => self.cancel(event),
             Ok(7) => self.match_report(event),
-            Ok(_) => self.rest(event),
+            Ok(8) => self.rest(event),
+            Ok(_) => self.right(event),
         };
         done.unwrap_or_else(Answer::Refused)
     }
@@ -187,6 +199,8 @@ impl LoneRun {
             for b in &s.boards {
                 words.extend([b.projected, b.last, b.bid, b.offer]);
             }
+            let r = &s.right;
+            words.extend([r.dividend, r.subscription, r.old, r.new]);
         }
         words
     }
@@ -248,6 +262,7 @@ impl LoneRun {
             prior_close,
             ipo,
             boards,
+            right: Right::default(),
         };
         Ok(Answer::Ok)
     }
@@ -370,6 +385,22 @@ impl LoneRun {
         Ok(Answer::Ok)
     }
 
+    /// Kind 9: what a right that has gone takes from the prior close.
+    fn right(&mut self, event: &[u8]) -> Result<Answer, u8> {
+        let security = field(event, 1, 2) as usize;
+        refuse_if(security >= self.listed.len(), 4)?;
+        let listed = &mut self.listed[security];
+        let right = Right {
+            dividend: field(event, 3, 4),
+            subscription: field(event, 7, 4),
+            old: field(event, 11, 2),
+            new: field(event, 13, 2),
+        };
+        refuse_if(right.old == 0 || right.dividend >= listed.prior_close, 13)?;
+        listed.right = right;
+        Ok(Answer::Ok)
+    }
+
     /// Condition 4 for the customer that an event names.
     fn own(&self, event: &[u8]) -> Result<(), u8> {
         let customer = field(event, 1, 2);
@@ -397,6 +428,7 @@ impl LoneRun {
         let rejections = [
             (Rule::S, self.session_shuts(ticket, security)),
             (Rule::V, bad_volume(ticket, security)),
+            (Rule::C, outside_range(ticket, security)),
             (Rule::Q, self.outside_half(ticket, security)),
             (Rule::W, self.meets_own_order(ticket, security)),
             (Rule::P, self.repeats_a_cancel(ticket)),
@@ -564,4 +596,34 @@ fn bad_volume(ticket: &Ticket, security: &Listed) -> bool {
         || ticket.volume > 20_000_000
         || !ticket.volume.is_multiple_of(security.lot)
         || ticket.order_type == LIMIT && value(ticket) > 50_000_000_000
+}
+
+/// Rule C without a ceiling and a floor: no legal price lies between 130% of the
+/// base and the ceiling, nor between the floor and 70%, so that the order's own
+/// price, which is legal, is compared with the base. Only at 0.01 is the ceiling
+/// above 130%.
+fn outside_range(ticket: &Ticket, security: &Listed) -> bool {
+    let close = u64::from(security.prior_close);
+    let covered = ticket.order_type == LIMIT && ticket.board == MAIN;
+    if !covered || security.free == 1 || close == 0 {
+        return false;
+    }
+    let price = u64::from(ticket.price);
+    if close < 100 {
+        return price > 2 * close;
+    }
+    let r = &security.right;
+    let [dividend, subscription, old, new] =
+        [r.dividend, r.subscription, r.old, r.new].map(u64::from);
+    let shares = old + new;
+    // Base and price, both times the shares: every number here is below 2^49.
+    let (base, price_of_shares) = match shares {
+        0 => (close, price),
+        _ => {
+            let after_right = (close - dividend) * old + subscription * new;
+            (after_right.min(close * shares), price * shares)
+        }
+    };
+    let above = 10 * price_of_shares > 13 * base && price > 1;
+    above || 10 * price_of_shares < 7 * base
 }

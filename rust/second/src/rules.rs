@@ -4,6 +4,7 @@
 use crate::answer::{Answer, Rule};
 use crate::codes::{Board, Channel, OrderType, Session, Side};
 use crate::ladder;
+use crate::range::Range;
 use crate::state::{MAX_VOLUME, Quotes, Row, Security, present};
 
 /// 500 million baht, in satang.
@@ -54,6 +55,8 @@ pub fn verdict(scene: &Scene, order: &Order) -> Answer {
         Answer::Reject(Rule::S)
     } else if rule_v(scene, order) {
         Answer::Reject(Rule::V)
+    } else if rule_c(scene, order) {
+        Answer::Reject(Rule::C)
     } else if rule_q(scene, order) {
         Answer::Reject(Rule::Q)
     } else if rule_w(scene, order) {
@@ -91,6 +94,13 @@ pub fn rule_v(scene: &Scene, order: &Order) -> bool {
     !(1..=MAX_VOLUME).contains(&order.volume)
         || !order.volume.is_multiple_of(scene.security.lot)
         || (order.is_limit() && order.value() > MAX_VALUE)
+}
+
+/// A main-board limit outside the day's range, where the security has one.
+pub fn rule_c(scene: &Scene, order: &Order) -> bool {
+    order.is_limit()
+        && order.board == Board::Main
+        && Range::of(scene.security).is_some_and(|range| !range.has(order.price))
 }
 
 /// A limit outside 50% to 150% of the reference while orders gather.

@@ -13,7 +13,7 @@ pub const CUSTOMERS: RangeInclusive<u32> = 1..=256;
 pub const SECURITIES: RangeInclusive<u32> = 1..=1_024;
 
 pub const HEADER_WORDS: usize = 4;
-pub const SECURITY_WORDS: usize = 13;
+pub const SECURITY_WORDS: usize = 17;
 pub const COUNTER_WORDS: usize = 3;
 pub const ROW_WORDS: usize = 9;
 /// How many rows a desk has.
@@ -125,6 +125,50 @@ pub struct Quotes {
     pub offer: u32,
 }
 
+/// What kind 9 sets: the dividend and the subscription price in satang, and how
+/// many new shares are subscribed for so many old ones.
+#[derive(Clone, Copy, Debug, PartialEq, Eq)]
+pub struct Figures {
+    pub dividend: u32,
+    pub subscription: u32,
+    pub old: u16,
+    pub new: u16,
+}
+
+impl Figures {
+    /// Could kind 9 set them beside this prior close? Paper 02, request 3, turns
+    /// it away "if old is 0 or the dividend is not below the prior close".
+    pub fn fit(&self, prior_close: u32) -> bool {
+        self.old > 0 && self.dividend < prior_close
+    }
+
+    /// The outer `None` if the words are not sound beside this prior close, the
+    /// inner one if they are all zero: there are no figures.
+    fn read(words: [u32; 4], prior_close: u32) -> Option<Option<Figures>> {
+        if words == [0; 4] {
+            return Some(None);
+        }
+        let [dividend, subscription, old, new] = words;
+        let figures = Figures {
+            dividend,
+            subscription,
+            old: old.try_into().ok()?,
+            new: new.try_into().ok()?,
+        };
+        figures.fit(prior_close).then_some(Some(figures))
+    }
+
+    /// In the order in which the record has them.
+    pub fn words(&self) -> [u32; 4] {
+        [
+            self.dividend,
+            self.subscription,
+            self.old.into(),
+            self.new.into(),
+        ]
+    }
+}
+
 #[derive(Clone, Copy, Debug, PartialEq, Eq)]
 pub struct Security {
     pub lot: u32,
@@ -135,11 +179,13 @@ pub struct Security {
     pub ipo: u32,
     pub main: Quotes,
     pub foreign: Quotes,
+    pub figures: Option<Figures>,
 }
 
 impl Security {
     /// `None` if the record is not sound.
     pub fn read(words: &[u32]) -> Option<Security> {
+        let (words, &figures) = words.split_last_chunk()?;
         let &[lot, free, first_day, prior_close, ipo, ref quotes @ ..] = words else {
             return None;
         };
@@ -170,6 +216,7 @@ impl Security {
                 bid: foreign_b,
                 offer: foreign_o,
             },
+            figures: Figures::read(figures, prior_close)?,
         })
     }
 
@@ -178,6 +225,8 @@ impl Security {
     }
 
     pub fn write(&self, words: &mut [u32]) {
+        let [dividend, subscription, old, new] =
+            self.figures.map_or([0; 4], |figures| figures.words());
         words.copy_from_slice(&[
             self.lot,
             u32::from(self.free),
@@ -192,6 +241,10 @@ impl Security {
             self.foreign.last,
             self.foreign.bid,
             self.foreign.offer,
+            dividend,
+            subscription,
+            old,
+            new,
         ]);
     }
 

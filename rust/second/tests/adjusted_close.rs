@@ -8,28 +8,6 @@ use second::answer::Answer;
 use second::encode;
 use second::event::Order;
 use second::ladder::{self, LAST_PRICE, Nearest};
-use second::lone::LoneRun;
-
-/// Every legal price, walked step by step up the paper's table. Its position is
-/// its place in the list; place 0 holds no price.
-fn legal_prices() -> Vec<u32> {
-    let mut prices = vec![0];
-    let mut price = 1;
-    while price <= LAST_PRICE {
-        prices.push(price);
-        price += match price {
-            0..2_00 => 1,
-            2_00..5_00 => 2,
-            5_00..10_00 => 5,
-            10_00..25_00 => 10,
-            25_00..100_00 => 25,
-            100_00..200_00 => 50,
-            200_00..400_00 => 1_00,
-            400_00.. => 2_00,
-        };
-    }
-    prices
-}
 
 #[test]
 fn nothing_on_the_ladder_is_nearer() {
@@ -52,39 +30,6 @@ fn nothing_on_the_ladder_is_nearer() {
     assert_eq!(upper, prices.len() - 1);
     for price in [0, LAST_PRICE + 1, u32::MAX] {
         assert_eq!(ladder::nearest(price), None, "{price}");
-    }
-}
-
-/// A gate and the lone run of its only customer.
-#[derive(Clone)]
-struct Pair {
-    gate: Gate,
-    lone: LoneRun,
-}
-
-impl Pair {
-    fn new() -> Self {
-        Pair {
-            gate: Gate::new(1, 1),
-            lone: LoneRun::new(1, 1, 0),
-        }
-    }
-
-    fn send(&mut self, event: &[u8]) -> Answer {
-        let answer = self.gate.send(event);
-        assert_eq!(self.lone.handle(event), answer, "{event:?}");
-        assert_eq!(self.lone.market_words(), self.gate.market());
-        assert_eq!(self.lone.desk_words(), self.gate.desk(0));
-        answer
-    }
-
-    fn ok(mut self, event: &[u8]) -> Self {
-        assert_eq!(self.send(event), OK);
-        self
-    }
-
-    fn would(&self, order: Order) -> Answer {
-        self.clone().send(&encode::order(&order))
     }
 }
 
@@ -247,8 +192,8 @@ fn projected_and_last_sale_go_before_the_close() {
     let last = [23_40, 23_50, 26_25, 26_50];
     let projected = [9_45, 9_50, 11_00, 11_10];
 
-    // Not free: Q would speak before warn 10.
-    let mut pair = after_close(PRE_OPEN, 65_60).ok(&setup(0, 0, 65_60, 0));
+    // Free: C would speak before warn 10. Q lets all of these prices pass.
+    let mut pair = after_close(PRE_OPEN, 65_60);
     is_reference(&pair, close);
     pair = pair.ok(&prices(MAIN, [0, 24_50, 0, 0]));
     is_reference(&pair, last);

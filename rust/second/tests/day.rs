@@ -41,7 +41,7 @@ fn nothing_read_is_only_the_opening() {
 
 #[test]
 fn an_unknown_kind_or_a_cut_event_ends_it() {
-    for kind in [0, 9, 255] {
+    for kind in [0, 10, 255] {
         let mut input = example();
         input.push(kind);
         input.extend(encode::session(OPEN));
@@ -51,7 +51,7 @@ fn an_unknown_kind_or_a_cut_event_ends_it() {
             format!("screen 8 16\n0 {kind} refused 3\n")
         );
     }
-    let lengths = [5, 2, 14, 20, 21, 7, 11, 11];
+    let lengths = [5, 2, 14, 20, 21, 7, 11, 11, 15];
     for (kind, length) in (1..).zip(lengths) {
         for left in 1..length {
             let mut input = example();
@@ -103,13 +103,34 @@ fn what_is_left_of_a_market_order() {
 }
 
 #[test]
+fn figures_of_a_right() {
+    let mut other = figures(0, 10_00, 2, 3);
+    other[1] = 15;
+    let input = [
+        encode::session(OPEN),
+        setup(0, 0, 150_00, 0),
+        figures(0, 10_00, 2, 3),
+        encode::order(&buy(1, 85_75, 100)),
+        encode::order(&buy(2, 86_00, 100)),
+        figures(150_00, 10_00, 2, 3),
+        other,
+    ]
+    .concat();
+    assert_eq!(
+        listing(&input),
+        "screen 8 16\n0 2 ok\n1 3 ok\n2 9 ok\n3 5 accept\n4 5 reject C\n\
+         5 9 refused 13\n6 9 refused 13\n"
+    );
+}
+
+#[test]
 fn at_most_65_536_bytes_are_read() {
     let whole = encode::session(CLOSED).repeat(32_768);
     let all = listing(&whole);
     assert_eq!(all.lines().count(), 1 + 32_768);
     assert!(all.ends_with("\n32767 2 ok\n"));
     // What follows is not read, be it another event or an unknown kind.
-    for after in [2, 0, 9] {
+    for after in [2, 0, 10] {
         let mut input = whole.clone();
         input.push(after);
         assert_eq!(listing(&input), all);

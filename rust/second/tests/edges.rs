@@ -687,14 +687,15 @@ fn warn_10_takes_its_reference_in_order() {
     assert_eq!(gate.would(buy(1, 10_000_000, 100)), ACCEPT);
     gate.ok(&setup(0, 0, 24_50, 0));
     warn_at(&gate, 24_50);
-    gate.ok(&prices(MAIN, [0, 99_00, 0, 0]));
-    warn_at(&gate, 99_00);
-    gate.ok(&prices(MAIN, [398_00, 99_00, 0, 0]));
-    warn_at(&gate, 398_00);
+    // All of these prices are inside the range of 24.50.
+    gate.ok(&prices(MAIN, [0, 20_00, 0, 0]));
+    warn_at(&gate, 20_00);
+    gate.ok(&prices(MAIN, [28_00, 20_00, 0, 0]));
+    warn_at(&gate, 28_00);
     for passing in [
         Order {
             channel: FRONT,
-            ..buy(1, 50_00, 100)
+            ..buy(1, 24_00, 100)
         },
         Order {
             board: FOREIGN,
@@ -705,9 +706,9 @@ fn warn_10_takes_its_reference_in_order() {
     }
     // A change of session makes the projected price absent.
     gate.session(PRE_CLOSE);
-    warn_at(&gate, 99_00);
+    warn_at(&gate, 20_00);
     gate.session(OPEN);
-    assert_eq!(gate.would(buy(1, 50_00, 100)), ACCEPT);
+    assert_eq!(gate.would(buy(1, 24_00, 100)), ACCEPT);
 }
 
 // ---- Rows, counters, market events ----
@@ -857,12 +858,19 @@ fn market_events_set_their_words() {
     let mut main = prices(MAIN, [5_00, 6_00, 7_00, 8_00]);
     main[1] = 1;
     gate.ok(&main);
+    let mut right = figures(8_99, 20_00, 65_535, 1);
+    right[1] = 1;
+    gate.ok(&right);
     assert_eq!(gate.words[..4], [2, 2, 86_399_999, 0]);
-    assert_eq!(gate.security(0), [100, 0, 0, 0, 0, 0, 0, 0, 0, 0, 0, 0, 0]);
+    assert_eq!(
+        gate.security(0),
+        [100, 0, 0, 0, 0, 0, 0, 0, 0, 0, 0, 0, 0, 0, 0, 0, 0]
+    );
     assert_eq!(
         gate.security(1),
         [
-            50, 1, 1, 9_00, 9_999_999, 5_00, 6_00, 7_00, 8_00, 1_00, 2_00, 3_00, 4_00
+            50, 1, 1, 9_00, 9_999_999, 5_00, 6_00, 7_00, 8_00, 1_00, 2_00, 3_00, 4_00, 8_99, 20_00,
+            65_535, 1
         ]
     );
     gate.session(PRE_OPEN);
@@ -870,7 +878,8 @@ fn market_events_set_their_words() {
     assert_eq!(
         gate.security(1),
         [
-            50, 1, 1, 9_00, 9_999_999, 0, 6_00, 7_00, 8_00, 0, 2_00, 3_00, 4_00
+            50, 1, 1, 9_00, 9_999_999, 0, 6_00, 7_00, 8_00, 0, 2_00, 3_00, 4_00, 8_99, 20_00,
+            65_535, 1
         ]
     );
 }

@@ -7,8 +7,9 @@ use std::collections::BTreeMap;
 
 use common::*;
 use second::answer::Answer;
-use second::event::{Event, Order, Prices, Setup, decode};
+use second::event::{Event, Figures, Order, Prices, Setup, decode};
 use second::lone::{LoneRun, Owner, belongs};
+use second::state::SECURITY_WORDS;
 use second::{encode, gate, ladder};
 
 /// How a history leans, so that full desks, repeated cancels and auctions all
@@ -190,7 +191,8 @@ impl Writer {
     }
 
     fn market_event(&mut self) -> Vec<u8> {
-        match self.random.below(8) {
+        match self.random.below(9) {
+            8 => self.figures(),
             0..=2 => {
                 let step = match self.random.below(8) {
                     0 => 0,
@@ -224,6 +226,18 @@ impl Writer {
                 offer: self.price_or_absent(),
             }),
         }
+    }
+
+    /// Mostly such as are not refused, if the security has a close.
+    fn figures(&mut self) -> Vec<u8> {
+        let price = self.price();
+        encode::figures(&Figures {
+            security: self.name(self.securities),
+            dividend: self.random.pick(&[0, 0, 1, 25, 1_00, 24_50, 50_00, price]),
+            subscription: self.random.pick(&[0, 10_00, 40_00, price, u32::MAX]),
+            old: self.random.pick(&[1, 1, 2, 10, u16::MAX, 0]),
+            new: self.random.pick(&[0, 1, 1, 3, u16::MAX]),
+        })
     }
 
     fn order(&mut self) -> Vec<u8> {
@@ -405,6 +419,7 @@ fn the_gate_answers_as_the_lone_runs() {
         "warn 10",
         "reject S",
         "reject V",
+        "reject C",
         "reject Q",
         "reject W",
         "reject P",
@@ -418,6 +433,7 @@ fn the_gate_answers_as_the_lone_runs() {
         "refused 10",
         "refused 11",
         "refused 12",
+        "refused 13",
     ];
     println!("{seen:#?} {rests:#?}");
     for answer in expected {
@@ -487,11 +503,13 @@ fn to_whom_an_event_belongs() {
         (vec![0], Owner::Nobody),
         (vec![8, 0, 0], Owner::Nobody),
         (vec![9, 0, 0, 0, 0, 0, 0, 0, 0, 0, 0], Owner::Nobody),
+        (vec![10, 0, 0, 0, 0, 0, 0, 0, 0, 0, 0], Owner::Nobody),
         (vec![1, 0, 0, 0], Owner::Nobody),
         (encode::clock(u32::MAX), Owner::Market),
         (encode::session(9), Owner::Market),
         (setup(9, 9, 2_01, 0), Owner::Market),
         (prices(9, [2_01; 4]), Owner::Market),
+        (figures(0, 0, 0, 0), Owner::Market),
         (order(0), Owner::Customer(0)),
         (order(3), Owner::Customer(3)),
         (order(4), Owner::Nobody),
@@ -518,7 +536,8 @@ mod soundness {
             && w[2] <= 1
             && w[3] <= 10_000_000
             && w[4] <= 10_000_000
-            && w[5..].iter().all(|&price| price == 0 || legal(price))
+            && w[5..13].iter().all(|&price| price == 0 || legal(price))
+            && (w[13..] == [0; 4] || w[13] < w[3] && (1..65_536).contains(&w[15]) && w[16] < 65_536)
     }
 
     pub fn desk(w: &[u32], securities: u32, clock: u32) -> bool {
@@ -571,7 +590,11 @@ fn damaged_words_never_stop_the_gate() {
                 let desk = gate.desk_start(writer.random.below(writer.customers) as usize);
                 let place = match writer.random.below(4) {
                     0 => 4 + writer.random.below(gate.words.len() as u32 - 4),
-                    1 => 4 + writer.random.below(13 * writer.securities),
+                    1 => {
+                        4 + writer
+                            .random
+                            .below(SECURITY_WORDS as u32 * writer.securities)
+                    }
                     _ => desk as u32 + writer.random.below(3 + 9 * 12),
                 };
                 let value = match writer.random.below(4) {
@@ -601,7 +624,7 @@ fn damaged_words_never_stop_the_gate() {
             let sound = match event[0] {
                 1 => true,
                 2 => everything,
-                3 | 4 => security(name(1)),
+                3 | 4 | 9 => security(name(1)),
                 5 => security(name(7)) && desk(name(1)),
                 _ => desk(name(1)),
             };
@@ -628,8 +651,8 @@ fn any_words_and_any_bytes() {
     for _ in 0..20_000 {
         let length = match random.below(3) {
             0 => random.below(8) as usize,
-            1 => 4 + 13 + 291,
-            _ => 4 + 2 * 13 + 291,
+            1 => 4 + SECURITY_WORDS + 291,
+            _ => 4 + 2 * SECURITY_WORDS + 291,
         };
         let mut words: Vec<u32> = (0..length)
             .map(|_| match random.below(3) {
@@ -639,13 +662,13 @@ fn any_words_and_any_bytes() {
             .collect();
         if random.once_in(2) && length > 291 {
             words[0] = 1;
-            words[1] = (length as u32 - 4 - 291) / 13;
+            words[1] = ((length - 4 - 291) / SECURITY_WORDS) as u32;
             words[2] = random.below(86_400_000);
             words[3] = random.below(5);
         }
         let event: Vec<u8> = (0..random.below(24))
             .map(|at| match at {
-                0 => random.below(10) as u8,
+                0 => random.below(11) as u8,
                 _ => random.next() as u8,
             })
             .collect();

@@ -3,8 +3,8 @@
 mod common;
 
 use common::*;
-use second::event::{Order, Prices, Setup};
-use second::state::word_count;
+use second::event::{Figures, Order, Prices, Setup};
+use second::state::{SECURITY_WORDS, word_count};
 use second::{encode, gate};
 
 const SETUP: Setup = Setup {
@@ -25,14 +25,29 @@ const PRICES: Prices = Prices {
     offer: 0,
 };
 
+const FIGURES: Figures = Figures {
+    security: 0,
+    dividend: 1_00,
+    subscription: 10_00,
+    old: 2,
+    new: 3,
+};
+
 /// Two customers, three securities, open session, clock 100,000. Customer 0 has
 /// an open buy no. 1 of 500 at 50.00, a buy no. 2 cancelled at 100,000 and an
-/// open MP buy no. 4 of 100.
+/// open MP buy no. 4 of 100. Securities 0 and 1 have a prior close of 50.00.
 fn gate() -> Gate {
     let mut gate = Gate::new(2, 3);
     gate.session(OPEN)
         .clock(100_000)
         .ok(&prices(MAIN, [0, 0, 49_75, 50_25]));
+    for security in [0, 1] {
+        gate.ok(&encode::setup(&Setup {
+            security,
+            prior_close: 50_00,
+            ..SETUP
+        }));
+    }
     assert_eq!(gate.order(buy(1, 50_00, 500)), ACCEPT);
     assert_eq!(gate.order(buy(2, 50_00, 500)), ACCEPT);
     assert_eq!(gate.cancel(0, 2), OK);
@@ -41,7 +56,7 @@ fn gate() -> Gate {
 }
 
 /// One good event of each kind for that state.
-fn one_of_each() -> [Vec<u8>; 8] {
+fn one_of_each() -> [Vec<u8>; 9] {
     [
         encode::clock(100_000),
         encode::session(OPEN),
@@ -51,6 +66,7 @@ fn one_of_each() -> [Vec<u8>; 8] {
         encode::cancel(0, 1),
         encode::match_report(0, 1, 100),
         encode::rest(0, 4, 50_25),
+        encode::figures(&FIGURES),
     ]
 }
 
@@ -97,7 +113,7 @@ fn number_1_comes_before_everything() {
             assert_eq!(would(&gate, &event[..event.len() - 1]), refused(1));
         }
         assert_eq!(would(&gate, &[]), refused(1));
-        assert_eq!(would(&gate, &[9]), refused(1));
+        assert_eq!(would(&gate, &[10]), refused(1));
     }
 }
 
@@ -112,9 +128,9 @@ fn number_1_on_making_a_fresh_state() {
         (1, 1, word_count(1, 1).unwrap() - 1),
         (1, 1, word_count(1, 1).unwrap() + 1),
         (256, 1_024, 0),
-        (257, 1, 4 + 13 + 291 * 257),
-        (1, 1_025, 4 + 13 * 1_025 + 291),
-        (0, 1, 4 + 13),
+        (257, 1, 4 + 17 + 291 * 257),
+        (1, 1_025, 4 + 17 * 1_025 + 291),
+        (0, 1, 4 + 17),
         (1, 0, 4 + 291),
     ];
     for (customers, securities, length) in cases {
@@ -127,14 +143,14 @@ fn number_1_on_making_a_fresh_state() {
 #[test]
 fn a_fresh_state() {
     for (customers, securities) in [(1, 1), (2, 3), (256, 1_024)] {
-        let length = 4 + 13 * securities as usize + 291 * customers as usize;
+        let length = 4 + 17 * securities as usize + 291 * customers as usize;
         let mut words = vec![7; length];
         assert_eq!(gate::fresh(&mut words, customers, securities), OK);
         let mut expected = vec![0; length];
         expected[0] = customers;
         expected[1] = securities;
         for security in 0..securities as usize {
-            expected[4 + 13 * security] = 100;
+            expected[4 + 17 * security] = 100;
         }
         assert_eq!(words, expected);
     }
@@ -176,7 +192,7 @@ fn numbers_2_and_3() {
         let mut longer = event.clone();
         longer.push(0);
         assert_eq!(would(&gate, &longer), refused(2));
-        for kind in [0, 9, 255] {
+        for kind in [0, 10, 255] {
             let mut unknown = event.clone();
             unknown[0] = kind;
             assert_eq!(would(&gate, &unknown), refused(3));
@@ -192,6 +208,10 @@ fn number_4() {
         for event in [
             encode::setup(&Setup { security, ..SETUP }),
             encode::prices(&Prices { security, ..PRICES }),
+            encode::figures(&Figures {
+                security,
+                ..FIGURES
+            }),
             encode::order(&Order {
                 security,
                 ..buy(3, 50_00, 100)
@@ -216,7 +236,7 @@ fn number_4() {
 }
 
 #[test]
-fn number_4_before_5_and_6() {
+fn number_4_before_those_that_follow() {
     let gate = gate();
     let far = 3;
     for event in [
@@ -231,6 +251,12 @@ fn number_4_before_5_and_6() {
             board: 2,
             last: 2_01,
             ..PRICES
+        }),
+        // Of the numbers behind 6, 13 too.
+        encode::figures(&Figures {
+            security: far,
+            old: 0,
+            ..FIGURES
         }),
         // The customer stands first in the event and the security later.
         encode::order(&Order {
@@ -423,6 +449,11 @@ fn security_damages() -> Vec<(usize, u32)> {
     for price in 5..13 {
         damages.extend([(price, 2_01), (price, 10_000_200), (price, u32::MAX)]);
     }
+    // Figures without old shares; of the words alone, old is sound from 1 on.
+    for figure in [13, 14, 16] {
+        damages.extend([(figure, 1), (figure, 50_00), (figure, u32::MAX)]);
+    }
+    damages.extend([(15, 65_536), (15, u32::MAX)]);
     damages
 }
 
@@ -489,7 +520,7 @@ fn number_8_for_a_security() {
     for (word, value) in security_damages() {
         for security in 0..3 {
             let mut gate = whole.clone();
-            gate.words[4 + 13 * security + word] = value;
+            gate.words[4 + SECURITY_WORDS * security + word] = value;
             let security = security as u16;
             let order = Order {
                 security,
@@ -501,6 +532,16 @@ fn number_8_for_a_security() {
                 encode::session(BREAK),
                 encode::setup(&Setup { security, ..SETUP }),
                 encode::prices(&Prices { security, ..PRICES }),
+                encode::figures(&Figures {
+                    security,
+                    ..FIGURES
+                }),
+                // 8 before 13.
+                encode::figures(&Figures {
+                    security,
+                    old: 0,
+                    ..FIGURES
+                }),
                 encode::order(&order),
                 encode::order(&Order { number: 1, ..order }),
             ] {
@@ -560,6 +601,7 @@ fn number_8_for_a_desk() {
             encode::clock(100_000),
             encode::setup(&SETUP),
             encode::prices(&PRICES),
+            encode::figures(&FIGURES),
         ] {
             assert_eq!(would(&gate, &event), OK);
         }
@@ -716,4 +758,74 @@ fn number_12() {
     assert_eq!(gate.order(priceless(ATO, BUY, 33)), refused(12));
     assert_eq!(gate.cancel(0, 32), OK);
     assert_eq!(gate.order(priceless(ATO, BUY, 33)), ACCEPT);
+}
+
+#[test]
+fn number_13() {
+    let gate = gate();
+    let with = |figures: Figures| would(&gate, &encode::figures(&figures));
+    let numbers = [0, 1, 49_99, 50_00, 50_01, u32::MAX];
+    for dividend in numbers {
+        for subscription in numbers {
+            for old in [0, 1, 2, u16::MAX] {
+                for new in [0, 1, 3, u16::MAX] {
+                    let figures = Figures {
+                        security: 1,
+                        dividend,
+                        subscription,
+                        old,
+                        new,
+                    };
+                    let fits = old > 0 && dividend < 50_00;
+                    let expected = if fits { OK } else { refused(13) };
+                    assert_eq!(with(figures), expected, "{figures:?}");
+                }
+            }
+        }
+    }
+    // Security 2 has no prior close, so no dividend is below it.
+    for dividend in [0, 1, u32::MAX] {
+        let figures = Figures {
+            security: 2,
+            dividend,
+            ..FIGURES
+        };
+        assert_eq!(with(figures), refused(13), "{figures:?}");
+    }
+}
+
+/// "they are sound if all zero or as kind 9 could have set them"
+#[test]
+fn sound_figures() {
+    let mut gate = gate();
+    for (close, figures, is_sound) in [
+        (50_00, [0, 0, 0, 0], true),
+        (0, [0, 0, 0, 0], true),
+        (50_00, [0, 0, 1, 0], true),
+        (50_00, [49_99, u32::MAX, 65_535, 65_535], true),
+        (50_00, [50_00, 0, 1, 0], false),
+        (50_00, [u32::MAX, 0, 1, 0], false),
+        (50_00, [0, 0, 65_536, 0], false),
+        (50_00, [0, 0, 1, 65_536], false),
+        (50_00, [0, 0, 0, 1], false),
+        (50_00, [0, 1, 0, 0], false),
+        (50_00, [1, 0, 0, 0], false),
+        (1, [0, 5, 1, 1], true),
+        (1, [1, 5, 1, 1], false),
+        (0, [0, 0, 1, 0], false),
+        (10_000_000, [9_999_999, 0, 1, 0], true),
+        (10_000_000, [10_000_000, 0, 1, 0], false),
+    ] {
+        let record = &mut gate.words[4 + SECURITY_WORDS..][..SECURITY_WORDS];
+        record[3] = close;
+        record[13..].copy_from_slice(&figures);
+        let sound = encode::prices(&Prices {
+            security: 1,
+            ..PRICES
+        });
+        let expected = if is_sound { OK } else { refused(8) };
+        for event in [sound, encode::session(OPEN)] {
+            assert_eq!(would(&gate, &event), expected, "{close} {figures:?}");
+        }
+    }
 }

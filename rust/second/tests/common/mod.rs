@@ -2,7 +2,9 @@
 #![allow(dead_code)]
 
 use second::answer::{Answer, Rule};
-use second::event::{Order, Prices, Setup};
+use second::event::{Figures, Order, Prices, Setup};
+use second::ladder::LAST_PRICE;
+use second::lone::LoneRun;
 use second::state::{DESK_WORDS, HEADER_WORDS, ROW_WORDS, SECURITY_WORDS, word_count};
 use second::{encode, gate};
 
@@ -33,6 +35,7 @@ pub const WARN_30: Answer = Answer::Warn30;
 pub const WARN_10: Answer = Answer::Warn10;
 pub const S: Answer = Answer::Reject(Rule::S);
 pub const V: Answer = Answer::Reject(Rule::V);
+pub const C: Answer = Answer::Reject(Rule::C);
 pub const Q: Answer = Answer::Reject(Rule::Q);
 pub const W: Answer = Answer::Reject(Rule::W);
 pub const P: Answer = Answer::Reject(Rule::P);
@@ -143,6 +146,39 @@ impl Gate {
     }
 }
 
+/// A gate and the lone run of its only customer.
+#[derive(Clone)]
+pub struct Pair {
+    pub gate: Gate,
+    lone: LoneRun,
+}
+
+impl Pair {
+    pub fn new() -> Self {
+        Pair {
+            gate: Gate::new(1, 1),
+            lone: LoneRun::new(1, 1, 0),
+        }
+    }
+
+    pub fn send(&mut self, event: &[u8]) -> Answer {
+        let answer = self.gate.send(event);
+        assert_eq!(self.lone.handle(event), answer, "{event:?}");
+        assert_eq!(self.lone.market_words(), self.gate.market());
+        assert_eq!(self.lone.desk_words(), self.gate.desk(0));
+        answer
+    }
+
+    pub fn ok(mut self, event: &[u8]) -> Self {
+        assert_eq!(self.send(event), OK);
+        self
+    }
+
+    pub fn would(&self, order: Order) -> Answer {
+        self.clone().send(&encode::order(&order))
+    }
+}
+
 /// Customer 0, security 0, main board, limit, online.
 pub fn buy(number: u32, price: u32, volume: u32) -> Order {
     Order {
@@ -196,6 +232,38 @@ pub fn prices(board: u8, [projected, last, bid, offer]: [u32; 4]) -> Vec<u8> {
         bid,
         offer,
     })
+}
+
+/// Figures of security 0.
+pub fn figures(dividend: u32, subscription: u32, old: u16, new: u16) -> Vec<u8> {
+    encode::figures(&Figures {
+        security: 0,
+        dividend,
+        subscription,
+        old,
+        new,
+    })
+}
+
+/// Every legal price, walked step by step up the paper's table. Its position is
+/// its place in the list; place 0 holds no price.
+pub fn legal_prices() -> Vec<u32> {
+    let mut prices = vec![0];
+    let mut price = 1;
+    while price <= LAST_PRICE {
+        prices.push(price);
+        price += match price {
+            0..2_00 => 1,
+            2_00..5_00 => 2,
+            5_00..10_00 => 5,
+            10_00..25_00 => 10,
+            25_00..100_00 => 25,
+            100_00..200_00 => 50,
+            200_00..400_00 => 1_00,
+            400_00.. => 2_00,
+        };
+    }
+    prices
 }
 
 /// A small deterministic generator (splitmix64).
