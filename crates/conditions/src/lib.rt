@@ -110,6 +110,12 @@ pub fn first_refusal(words: &[u32], e: Event) -> u32
             }
             if_met(8, !sound_desk_at(words, k))
         }
+        Event::Figures(x) => {
+            if h.securities <= x.security {
+                return 4;
+            }
+            if_met(8, !sound_security_at(words, x.security))
+        }
     }
 }
 

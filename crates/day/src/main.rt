@@ -93,6 +93,7 @@ fn verdict_text(v: Verdict, out: &mut [u8; TEXT]) -> usize
     match v {
         Verdict::RejectS => bytes::copy(b"reject S", out),
         Verdict::RejectV => bytes::copy(b"reject V", out),
+        Verdict::RejectC => bytes::copy(b"reject C", out),
         Verdict::RejectQ => bytes::copy(b"reject Q", out),
         Verdict::RejectW => bytes::copy(b"reject W", out),
         Verdict::RejectP => bytes::copy(b"reject P", out),

@@ -1,22 +1,29 @@
 -- Paper 02, 3, "Daily ceiling and floor": what the ceiling and the floor of a base are, in the paper's words and by no other number, and how a legal price is
 -- held against them without looking for them.
 -- Assumes nothing.
-use mathlib.Core.Bool.{Bool, true, false, cond, _&&_, _||_}
+use mathlib.Core.Bool.{Bool, true, false, cond, _&&_, _||_, not, or-false}
+use mathlib.Core.List.{[], _∷_}
 use mathlib.Core.Logic.{_⊎_, inl, inr, ⊎-elim, _↔_}
 use mathlib.Core.Path.{_≡_, refl, ap, ap₂, sym, _∙_}
 use Prim.Native.Nat.{ℕ, zero, suc, _+_, _-_, _*_, _/_, _≤_, _<_, min, max}
-use native.Mathlib.Nat.{add-mul, le-div-iff-mul-le, div-lt-iff-lt-mul, mul-le-mul-right}
+use native.Mathlib.Nat.{add-mul, le-div-iff-mul-le, div-lt-iff-lt-mul, mul-le-mul-right, mul-pos}
 use native.Mathlib.Omega.{arith}
-use lib.Dec.{ltb}
-use borrow.Author.Tests.{ltb-true, ltb-false, lt-ltb, le-ltb}
+use lib.Dec.{leb, ltb, eqb, lit≤, lit<}
+use borrow.Author.Tests.{not-true, eqb-false, leb-true, ltb-true, lt-ltb}
 use Rattle.ladder.specs.Bands.{firstPrice, lastPrice}
 use Rattle.ladder.specs.Ladder.{bandOfPrice, lastBand, legal, legalDown, legalUp}
 use Rattle.ladder.proofs.Laws.{legal-true}
 use Rattle.ladder.proofs.LegalLaws as ladder
+use Rattle.definitions.specs.declared.Figures.{Figures}
+use Rattle.definitions.specs.declared.Security.{Security}
 use Rattle.definitions.specs.declared.Base.{Base}
-use Rattle.definitions.specs.Ranges.{wholeUp, ceilingOf, floorOf, range}
-use Rattle.definitions.specs.Rules.{outsideRange}
-use Rattle.definitions.proofs.Tests.{and-parts, and-whole}
+use Rattle.definitions.specs.declared.Order.{Order}
+use Rattle.definitions.specs.Codes.{mainBoard, isLimit, maxShares}
+use Rattle.definitions.specs.Sound.{settable, zeroFigures, soundFigures, soundSecurity, pricedAs}
+use Rattle.definitions.specs.Ranges.{base, adjusted, notAbove, hasFigures, baseOf, wholeUp, ceilingOf, floorOf, range, hasRange}
+use Rattle.definitions.specs.Rules.{outsideRange, coveredByC}
+use Rattle.definitions.proofs.Tests.{never, either, and-parts, and-whole, or-cases, joined-parts}
+use Rattle.definitions.proofs.SoundSecurity.{security-true}
 
 -- "130% of the base, down to a legal price": the greatest legal price that is not above it; "at least 1" where there is none. A legal price is at most 10,000,000.
 pub record IsCeiling (b : Base) (c : ℕ) : Type 0 where
@@ -52,12 +59,12 @@ module _ (n d : ℕ) (some : 0 < d) where
   next : (p : ℕ) → (p + 1) * d ≡ p * d + d
   next p = add-mul p 1 d ∙ omega arith
 
-  up-reaches : (p : ℕ) → wholeUp n d ≤ p → n ≤ p * d
+  pub up-reaches : (p : ℕ) → wholeUp n d ≤ p → n ≤ p * d
   up-reaches p most =
       let below : n + (d - 1) < (p + 1) * d = div-lt-iff-lt-mul {k = d} {x = n + (d - 1)} {y = p + 1} some .0 (omega arith) in
       omega (arith, next p, some)
 
-  up-most : (p : ℕ) → n ≤ p * d → wholeUp n d ≤ p
+  pub up-most : (p : ℕ) → n ≤ p * d → wholeUp n d ≤ p
   up-most p reaches =
       let below : wholeUp n d < p + 1 = div-lt-iff-lt-mul {k = d} {x = n + (d - 1)} {y = p + 1} some .1 (omega (arith, next p, some)) in
       omega arith
@@ -153,3 +160,84 @@ module _ (b : Base) (some : 0 < b .denominator) where
             (λ both.
             let parts = and-parts (ltb 1 p) (ltb (130 * b .numerator) (p * hundred)) both in
             lt-ltb _ _ (by-contra-lt (under (parts .0) (ltb-true _ _ (parts .1)))))
+
+-- figures that kind 9 could have set, with a name for each part of the test
+pub record Settable (close : ℕ) (f : Figures) : Type 0 where
+  pub some : 1 ≤ f .«old_shares»
+  pub old : f .«old_shares» ≤ maxShares
+  pub new : f .«new_shares» ≤ maxShares
+  pub dividend : f .dividend < close
+
+pub settable-true : (close : ℕ) (f : Figures) → settable close f ≡ true → Settable close f
+settable-true close f e =
+    let p = joined-parts (leb 1 (f .«old_shares»)) (leb (f .«old_shares») maxShares ∷ leb (f .«new_shares») maxShares ∷ ltb (f .dividend) close ∷ []) e in
+    record {
+      some = leb-true 1 (f .«old_shares») (p .0);
+      old = leb-true (f .«old_shares») maxShares (p .1 .0);
+      new = leb-true (f .«new_shares») maxShares (p .1 .1 .0);
+      dividend = ltb-true (f .dividend) close (p .1 .1 .1 .0);
+    }
+
+-- figures that are there are such
+pub sound-settable : (close : ℕ) (f : Figures) → soundFigures close f ≡ true → eqb (f .«old_shares») 0 ≡ false → settable close f ≡ true
+sound-settable close f sound some =
+    ⊎-elim
+    (λ none. never (joined-parts (eqb (f .dividend) 0) (eqb (f .subscription) 0 ∷ eqb (f .«old_shares») 0 ∷ eqb (f .«new_shares») 0 ∷ []) none .1 .1 .0) some)
+    (λ set. set)
+    (or-cases (zeroFigures f) (settable close f) sound)
+
+-- the base of sound figures: above 0, at most the prior close, and over the shares or over 1
+pub record BaseOf (close : ℕ) (b : Base) : Type 0 where
+  pub some : 0 < b .numerator
+  pub shared : 0 < b .denominator
+  pub few : b .denominator ≤ 131_070
+  pub most : b .numerator ≤ close * b .denominator
+
+whole-base : (close : ℕ) → 0 < close → BaseOf close (base close 1)
+whole-base close present = record { some = present; shared = lit< tt; few = lit≤ tt; most = omega arith }
+
+adjusted-base : (close : ℕ) (f : Figures) → Settable close f → notAbove (adjusted close f) close ≡ true → BaseOf close (adjusted close f)
+adjusted-base close f set smaller =
+    record {
+      some =
+          let left : 0 < (close - f .dividend) * f .«old_shares» = mul-pos (omega (arith, set .dividend)) (set .some) in
+          omega arith;
+      shared = omega (arith, set .some);
+      few = omega (arith, set .old, set .new);
+      most = leb-true (adjusted close f .numerator) (close * adjusted close f .denominator) smaller;
+    }
+
+pub base-is : (close : ℕ) (f : Figures) → soundFigures close f ≡ true → 0 < close → BaseOf close (baseOf close f)
+unfolding baseOf
+base-is close f sound present =
+    either (BaseOf close) (hasFigures f && notAbove (adjusted close f) close) (adjusted close f) (base close 1)
+    (λ both.
+    let parts = and-parts (hasFigures f) (notAbove (adjusted close f) close) both in
+    adjusted-base close f (settable-true close f (sound-settable close f sound (not-true (eqb (f .«old_shares») 0) (parts .0)))) (parts .1))
+    (λ _. whole-base close present)
+
+-- what the range of a sound security asks of it
+pub sound-range : (s : Security) → soundSecurity s ≡ true → (soundFigures (s .prior .close) (s .figures) ≡ true) × (s .prior .close ≤ lastPrice)
+sound-range s sound =
+    let h = security-true s sound in
+    (h .figures, leb-true (s .prior .close) lastPrice (and-parts (leb (s .prior .close) lastPrice) (leb (s .prior .ipo) lastPrice) (h .prior) .0))
+
+-- and with it a legal price, of an order that C covers
+pub record RangeAsked (s : Security) (o : Order) : Type 0 where
+  pub figures : soundFigures (s .prior .close) (s .figures) ≡ true
+  pub present : 0 < s .prior .close
+  pub close : s .prior .close ≤ lastPrice
+  pub price : legal (o .price) ≡ true
+
+pub range-asked : (s : Security) (o : Order) → coveredByC s o ≡ true → soundSecurity s ≡ true → pricedAs (o .«order_type») (o .price) ≡ true → RangeAsked s o
+range-asked s o covered sound priced =
+    let h = sound-range s sound in
+    let parts = joined-parts (isLimit (o .«order_type»)) (eqb (o .board) mainBoard ∷ hasRange s ∷ []) covered in
+    let set = and-parts (not (eqb (s .terms .free) 1)) (not (eqb (s .prior .close) 0)) (parts .1 .1 .0) in
+    let absent : ¬ (s .prior .close ≡ 0) = eqb-false (s .prior .close) 0 (not-true _ (set .1)) in
+    record {
+      figures = h .0;
+      present = omega arith;
+      close = h .1;
+      price = sym (or-false (legal (o .price))) ∙ (rw (parts .0) at priced);
+    }

@@ -63,12 +63,12 @@ ruleV m o =
 abbrev pub outsideRange : Range → ℕ → Bool
 outsideRange r price = ltb price (r .floor) || ltb (r .ceiling) price
 
+abbrev pub coveredByC : Security → Order → Bool
+coveredByC s o = isLimit (o .«order_type») && eqb (o .board) mainBoard && hasRange s
+
 unfoldable pub ruleC : MarketView → Order → Bool
 ruleC m o =
-    isLimit (o .«order_type»)
-    && eqb (o .board) mainBoard
-    && hasRange (m .security)
-    && outsideRange (rangeOf (m .security .prior .close) (m .security .figures)) (o .price)
+    coveredByC (m .security) o && outsideRange (rangeOf (m .security .prior .close) (m .security .figures)) (o .price)
 
 -- "on the foreign board else the main board's last sale"
 abbrev pub mainLastSale : Security → ℕ → ℕ

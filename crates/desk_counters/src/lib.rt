@@ -12,6 +12,7 @@ fn counter_of(v: Verdict) -> Counter
     match v {
         Verdict::RejectS => Counter::Rejected,
         Verdict::RejectV => Counter::Rejected,
+        Verdict::RejectC => Counter::Rejected,
         Verdict::RejectQ => Counter::Rejected,
         Verdict::RejectW => Counter::Rejected,
         Verdict::RejectP => Counter::Rejected,

@@ -2,17 +2,19 @@
 ghost use mathlib.Core.Path.{_≡_};
 ghost use Prim.Native.Nat.{_+_, _*_, _≤_, _<_};
 ghost use lib.ListN.{length, getD};
-ghost use Rattle.definitions.specs.Events.{two, four, lengthOf, clockOf, sessionOf, setupOf, pricesOf, orderOf, cancelOf, matchOf, restOf, eventOf};
+ghost use Rattle.definitions.specs.Events.{two, four, lengthOf, clockOf, sessionOf, setupOf, pricesOf, orderOf, cancelOf, matchOf, restOf, figuresOf, eventOf};
 ghost use Rattle.events.specs.Readings.{readEvent};
 use definitions::BoardPrices;
 use definitions::Cancel;
 use definitions::Event;
+use definitions::Figures;
 use definitions::Match;
 use definitions::Order;
 use definitions::Prices;
 use definitions::PriorPrices;
 use definitions::Reading;
 use definitions::Rest;
+use definitions::SecurityFigures;
 use definitions::Setup;
 use definitions::Terms;
 
@@ -47,6 +49,7 @@ pub fn length_of(kind: u8) -> usize
         6 => 7,
         7 => 11,
         8 => 11,
+        9 => 15,
         _ => 0,
     }
 }
@@ -64,7 +67,8 @@ fn event_of(kind: u8, bytes: &[u8]) -> Event
         5 => order_of(bytes),
         6 => cancel_of(bytes),
         7 => match_of(bytes),
-        _ => rest_of(bytes),
+        8 => rest_of(bytes),
+        _ => figures_of(bytes),
     }
 }
 
@@ -171,6 +175,21 @@ fn rest_of(bytes: &[u8]) -> Event
             price: four_at(bytes, 7),
         },
     )
+}
+
+fn figures_of(bytes: &[u8]) -> Event
+    requires { ⌜ length (now bytes) ≡ 15 ⌝ }
+    ensures { λ r. ⌜ r ≡ figuresOf (now (bytes .entry)) ⌝ }
+{
+    Event::Figures(SecurityFigures {
+        security: two_at(bytes, 1),
+        figures: Figures {
+            dividend: four_at(bytes, 3),
+            subscription: four_at(bytes, 7),
+            old_shares: two_at(bytes, 11),
+            new_shares: two_at(bytes, 13),
+        },
+    })
 }
 
 fn byte_at(bytes: &[u8], at: usize) -> u32

@@ -20,6 +20,7 @@ fn verdict_number(v: Verdict) -> u32
     match v {
         Verdict::RejectS => 219,
         Verdict::RejectV => 222,
+        Verdict::RejectC => 203,
         Verdict::RejectQ => 217,
         Verdict::RejectW => 223,
         Verdict::RejectP => 216,

@@ -10,8 +10,12 @@ use definitions::Event;
 use definitions::Reading;
 
 mod answers;
+mod range;
 
 pub use answers::answer_number;
+pub use range::ceiling_number;
+pub use range::daily_range;
+pub use range::floor_number;
 
 // One event's bytes, handed to the gate over lent words. Total on every slice of words and of bytes.
 pub fn handle(words: &mut [u32], event: &[u8]) -> Answer
@@ -61,6 +65,7 @@ fn apply(words: &mut [u32], event: Event) -> Answer
         Event::Cancel(k, x) => kind_cancel::handle(words, k, x),
         Event::Match(k, x) => kind_match::handle(words, k, x),
         Event::Rest(k, x) => kind_rest::handle(words, k, x),
+        Event::Figures(x) => kind_figures::handle(words, x),
     }
 }
 

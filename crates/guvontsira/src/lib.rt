@@ -2,7 +2,7 @@
 ghost use mathlib.Core.Path.{_≡_};
 ghost use Rattle.ladder.specs.Ladder.{lowerNumber, nearestTo, positionOf, positionNumber, priceAt, upperNumber};
 ghost use Rattle.definitions.specs.Answers.{answerNumber};
-ghost use Rattle.definitions.specs.Gate.{answerOf, wordsOf, outcome, made};
+ghost use Rattle.definitions.specs.Gate.{answerOf, ceilingNumber, dailyRange, floorNumber, wordsOf, outcome, made};
 ghost use lib.ListN.{length, take};
 ghost use Rattle.definitions.specs.Walk.{split};
 ghost use Rattle.histories.specs.Ran.{Ran, cut};
@@ -48,6 +48,22 @@ pub extern "C" fn guvontsira_run_list(
         ⌜ Ran (now (words .entry)) (cut (take (length (now (answers .entry))) (now (lengths .entry))) (now (events .entry))) (now (answers .entry)) count (now (words .exit)) (now (answers .exit)) ⌝ }
 {
     histories::run_list(words, events, lengths, answers)
+}
+
+// The day's floor of a security; 0 where it has no range.
+#[no_mangle]
+pub extern "C" fn guvontsira_floor(words: &[u32], security: u32) -> u32
+    ensures { λ r. ⌜ r ≡ floorNumber (dailyRange (now (words .entry)) security) ⌝ }
+{
+    gate::floor_number(gate::daily_range(words, security))
+}
+
+// The day's ceiling of a security; 0 where it has no range.
+#[no_mangle]
+pub extern "C" fn guvontsira_ceiling(words: &[u32], security: u32) -> u32
+    ensures { λ r. ⌜ r ≡ ceilingNumber (dailyRange (now (words .entry)) security) ⌝ }
+{
+    gate::ceiling_number(gate::daily_range(words, security))
 }
 
 // 0 for a price off the ladder.

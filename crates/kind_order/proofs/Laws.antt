@@ -19,12 +19,14 @@ use Rattle.definitions.specs.declared.Answer.the-variants as answer
 use Rattle.definitions.specs.Codes.{deskRows}
 use Rattle.definitions.specs.Lists.{any, count, firstMet}
 use Rattle.definitions.specs.State.{headerOf, securityAt, deskAt, putDesk}
+use Rattle.definitions.specs.Sound.{soundSecurity, pricedAs}
 use Rattle.definitions.specs.Desks.{openOrInMinute, added, counterOf, countedAs, counted, takesRow, ordered}
 use Rattle.definitions.specs.Rules.{View, verdictOf}
 use Rattle.definitions.specs.Refusals.{holdsNumber, numberTaken, deskFull}
-use Rattle.definitions.specs.Gate.{resultOf, viewAt, perform}
-use Rattle.kind_contract.specs.First.{laterRefusal, laterOutcome}
-use Rattle.kind_contract.proofs.Laws.{later-refused, later-done}
+use Rattle.definitions.specs.Gate.{resultOf, viewAt, soundSecurityAt, soundDeskAt, recordsSound, perform}
+use Rattle.definitions.proofs.Tests.{and-parts}
+use Rattle.kind_contract.specs.First.{Ready, laterRefusal, laterOutcome}
+use Rattle.kind_contract.proofs.Laws.{unmet-first, later-refused, later-done}
 use Rattle.kind_contract.proofs.Done.{Left}
 
 -- counters and rows change apart
@@ -40,6 +42,12 @@ added-counted v clock o d = go (counterOf v)
 module _ (w : List ℕ) (k : ℕ) (o : Order) {h : Header} {s : Security} {d : Desk} (eh : h ≡ headerOf w) (es : s ≡ securityAt w (o .security)) (ed : d ≡ deskAt w k) where
   abbrev e : Event
   e = event.Order k o
+
+  -- the rules are given a sound security and a price that goes with the order's type
+  pub rules-asked : Ready w e → (soundSecurity s ≡ true) × (pricedAs (o .«order_type») (o .price) ≡ true)
+  rules-asked ready =
+      let sound = not-false (recordsSound w e) (unmet-first w e ready 8) in
+      (rw es (and-parts (soundSecurityAt w (o .security)) (soundDeskAt w k) sound .0), not-false (pricedAs (o .«order_type») (o .price)) (unmet-first w e ready 6))
 
   abbrev viewBy : Header → Security → Desk → View
   viewBy a x y = record { market = record { session = a .session; clock = a .clock; security = x }; desk = y }

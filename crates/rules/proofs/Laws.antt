@@ -6,9 +6,9 @@ use mathlib.Core.Path.{_≡_, refl, sym}
 use lib.Dec.{eqb}
 use Rattle.definitions.specs.declared.Order.{Order}
 use Rattle.definitions.specs.declared.Verdict.{Verdict}
-use Rattle.definitions.specs.declared.Verdict.the-variants.{RejectS, RejectV, RejectQ, RejectW, RejectP, Warn30, Warn10, Accept}
+use Rattle.definitions.specs.declared.Verdict.the-variants.{RejectS, RejectV, RejectC, RejectQ, RejectW, RejectP, Warn30, Warn10, Accept}
 use Rattle.definitions.specs.Codes.{online}
-use Rattle.definitions.specs.Rules.{View, ruleS, ruleV, ruleQ, ruleW, ruleP, warn30, warn10, firstThat, verdictOf}
+use Rattle.definitions.specs.Rules.{View, ruleS, ruleV, ruleC, ruleQ, ruleW, ruleP, warn30, warn10, firstThat, verdictOf}
 use Rattle.rule_rows.specs.Covered.{coveredByP}
 
 pub not-w : (v : View) (o : Order) → eqb (o .channel) online ≡ false → ruleW v o ≡ false
@@ -27,6 +27,7 @@ abbrev pub allRules : View → Order → List (Bool × Verdict)
 allRules v o =
     (ruleS (v .market) o, RejectS)
     ∷ (ruleV (v .market) o, RejectV)
+    ∷ (ruleC (v .market) o, RejectC)
     ∷ (ruleQ (v .market) o, RejectQ)
     ∷ (ruleW v o, RejectW)
     ∷ (ruleP v o, RejectP)

@@ -1,15 +1,18 @@
 // A security taken out of the words: the prices of one of its boards, what becomes of it, and when it is sound.
 ghost use mathlib.Core.Path.{_≡_};
-ghost use Rattle.definitions.specs.Gate.{afterPrices, afterSetup, noProjected, withPrices, withoutProjected};
+ghost use Rattle.definitions.specs.Gate.{afterFigures, afterPrices, afterSetup, noProjected, withPrices, withoutProjected};
 ghost use Rattle.definitions.specs.Rules.{pricesOn};
-ghost use Rattle.definitions.specs.Sound.{priceOrAbsent, soundPrices, soundPrior, soundSecurity, soundTerms};
+ghost use Rattle.definitions.specs.Sound.{priceOrAbsent, settable, soundFigures, soundPrices, soundPrior, soundSecurity, soundTerms};
 use definitions::BoardPrices;
+use definitions::Figures;
 use definitions::Prices;
 use definitions::PriorPrices;
 use definitions::Security;
+use definitions::SecurityFigures;
 use definitions::Setup;
 use definitions::Terms;
 use definitions::codes::FOREIGN_BOARD;
+use definitions::codes::MAX_SHARES;
 use ladder::Ladder;
 
 pub fn prices_on(s: Security, board: u32) -> Prices
@@ -26,15 +29,17 @@ fn with_prices(main: Prices, foreign: Prices, s: Security) -> Security
 {
     let terms = s.terms;
     let prior = s.prior;
+    let figures = s.figures;
     Security {
         terms,
         prior,
         main,
         foreign,
+        figures,
     }
 }
 
-// "Kinds 3 and 4 replace the fields they name."
+// "Kinds 3 and 4 replace the fields they name."; of kind 9's figures: "kind 3 clears it"
 pub fn after_setup(x: Setup, s: Security) -> Security
     ensures { λ r. ⌜ r ≡ afterSetup x s ⌝ }
 {
@@ -42,11 +47,35 @@ pub fn after_setup(x: Setup, s: Security) -> Security
     let prior = x.prior;
     let main = s.main;
     let foreign = s.foreign;
+    let figures = Figures {
+        dividend: 0,
+        subscription: 0,
+        old_shares: 0,
+        new_shares: 0,
+    };
     Security {
         terms,
         prior,
         main,
         foreign,
+        figures,
+    }
+}
+
+pub fn after_figures(x: SecurityFigures, s: Security) -> Security
+    ensures { λ r. ⌜ r ≡ afterFigures x s ⌝ }
+{
+    let terms = s.terms;
+    let prior = s.prior;
+    let main = s.main;
+    let foreign = s.foreign;
+    let figures = x.figures;
+    Security {
+        terms,
+        prior,
+        main,
+        foreign,
+        figures,
     }
 }
 
@@ -106,8 +135,33 @@ pub fn sound_prices(p: Prices) -> bool
         & price_or_absent(p.offer)
 }
 
+// "13 if old is 0 or the dividend is not below the prior close"
+pub fn settable(close: u32, f: Figures) -> bool
+    ensures { λ r. ⌜ r ≡ settable close f ⌝ }
+{
+    (1 <= f.old_shares)
+        & (f.old_shares <= MAX_SHARES)
+        & (f.new_shares <= MAX_SHARES)
+        & (f.dividend < close)
+}
+
+// "sound if all zero or as kind 9 could have set them"
+fn sound_figures(close: u32, f: Figures) -> bool
+    ensures { λ r. ⌜ r ≡ soundFigures close f ⌝ }
+{
+    let none = (f.dividend == 0)
+        & (f.subscription == 0)
+        & (f.old_shares == 0)
+        & (f.new_shares == 0);
+    none | settable(close, f)
+}
+
 pub fn sound_security(s: Security) -> bool
     ensures { λ r. ⌜ r ≡ soundSecurity s ⌝ }
 {
-    sound_terms(s.terms) & sound_prior(s.prior) & sound_prices(s.main) & sound_prices(s.foreign)
+    sound_terms(s.terms)
+        & sound_prior(s.prior)
+        & sound_prices(s.main)
+        & sound_prices(s.foreign)
+        & sound_figures(s.prior.close, s.figures)
 }

@@ -3,6 +3,7 @@ ghost use mathlib.Core.Path.{_≡_};
 ghost use Prim.Native.Nat.{_+_, _≤_};
 ghost use lib.ListN.{length};
 ghost use Rattle.definitions.specs.State.{securitySize, securityPlace, securityOf, securityWords, securityAt, putSecurity};
+use definitions::Figures;
 use definitions::Prices;
 use definitions::PriorPrices;
 use definitions::Security;
@@ -36,11 +37,18 @@ fn security_of(words: &[u32]) -> Security
         bid: words[11],
         offer: words[12],
     };
+    let figures = Figures {
+        dividend: words[13],
+        subscription: words[14],
+        old_shares: words[15],
+        new_shares: words[16],
+    };
     Security {
         terms,
         prior,
         main,
         foreign,
+        figures,
     }
 }
 
@@ -69,6 +77,10 @@ fn security_words(x: Security) -> [u32; SECURITY_SIZE]
         x.foreign.last_sale,
         x.foreign.bid,
         x.foreign.offer,
+        x.figures.dividend,
+        x.figures.subscription,
+        x.figures.old_shares,
+        x.figures.new_shares,
     ]
 }
 

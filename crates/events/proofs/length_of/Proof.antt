@@ -19,4 +19,5 @@ length-of-spec =
     (λ c. ap lengthOf (sym (c .match .keys6)))
     (λ c. ap lengthOf (sym (c .match .keys7)))
     (λ c. ap lengthOf (sym (c .match .keys8)))
+    (λ c. ap lengthOf (sym (c .match .keys9)))
     (λ c. unknown _ (c .match .rest)))

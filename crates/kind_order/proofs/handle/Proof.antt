@@ -3,7 +3,7 @@
 use mathlib.Core.Path.{refl}
 use borrow.Author.Needs.{needs}
 use Rattle.kind_contract.proofs.Laws.{header-fits, security-fits, desk-fits}
-use Rattle.kind_order.proofs.Laws.{order-9, order-counted, order-12, order-added}
+use Rattle.kind_order.proofs.Laws.{rules-asked, order-9, order-counted, order-12, order-added}
 use Rattle.kind_order.proofs.handle.Statement.{statement}
 use Rattle.kind_order.proofs.handle.Tie as tie
 
@@ -35,7 +35,7 @@ handle-spec =
     (λ c κs. search needs)
     (λ c. search needs)
     returns
-    (λ c κs. search needs)
+    (λ c κs. rules-asked _ _ _ (c .before .before .before .before .before .before .header-of .ensures) (c .before .before .before .before .security-at .ensures) (c .before .before .desk-at .ensures) (c .before .before .before .before .before .before .before .before .before .pre))
     (λ c κs. search needs)
     (λ c κs. search needs)
     (λ c κs. desk-fits _ _ (c .before .before .before .before .before .before .before .before .before .before .before .before .before .before .pre) _ refl)
