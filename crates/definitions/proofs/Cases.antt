@@ -8,27 +8,34 @@ use Rattle.ladder.specs.declared.Position.the-variants.{At}
 use Rattle.ladder.specs.declared.Nearest.{Nearest}
 use Rattle.ladder.specs.declared.Nearest.the-variants.{Positions, None}
 use Rattle.ladder.specs.Ladder.{positionOf, nearestTo, legal, bandOfPrice, lastBand}
+use Rattle.definitions.specs.declared.Figures.{Figures}
+use Rattle.definitions.specs.declared.Base.{Base}
+use Rattle.definitions.specs.declared.Range.{Range}
 use Rattle.definitions.specs.declared.Answer.the-variants as answer
 use Rattle.definitions.specs.declared.Answer.{Answer}
 use Rattle.definitions.specs.declared.Verdict.{Verdict}
-use Rattle.definitions.specs.declared.Verdict.the-variants.{RejectV, RejectQ, RejectW, RejectP, Warn30, Warn10, Accept}
-use Rattle.definitions.proofs.Bytes.{clock, session, setup, prices, order, cancel, rest}
+use Rattle.definitions.specs.declared.Verdict.the-variants.{RejectV, RejectC, RejectQ, RejectW, RejectP, Warn30, Warn10, Accept}
+use Rattle.definitions.specs.Ranges.{baseOf, rangeOf, floorOf, ceilingOf}
+use Rattle.definitions.proofs.Bytes.{clock, session, setup, prices, order, cancel, rest, figures}
 use Rattle.definitions.proofs.Run.{answersOf, lastOf}
 
--- what a case asks: the position of a price, the nearest positions of one, or the answer to the last event of a history of one customer and one security
+-- what a case asks: the position of a price, the nearest positions of one, the base and the range of a prior close with figures, or the answer to the last event of a history of one customer and one security
 pub data Question : Type 0 where
   position : ℕ → Question
   nearest : ℕ → Question
+  range : ℕ → Figures → Question
   lastAnswer : List (List ℕ) → Question
 
 pub data Found : Type 0 where
   at : Position → Found
   beside : Nearest → Found
+  between-prices : Base → Range → Found
   answered : Answer → Found
 
 abbrev pub find : Question → Found
 find (position p) = at (positionOf p)
 find (nearest p) = beside (nearestTo p)
+find (range close f) = between-prices (baseOf close f) (rangeOf close f)
 find (lastAnswer history) = answered (lastOf (answersOf 1 1 history) answer.Ok)
 
 pub record Case : Type 0 where
@@ -48,6 +55,17 @@ between lower upper = Positions (record { lower = lower; upper = upper; legal = 
 
 abbrev pub exactly : ℕ → Nearest
 exactly k = Positions (record { lower = k; upper = k; legal = true })
+
+-- a prior close with figures, its base as two whole numbers, its floor and its ceiling
+abbrev pub ranges : ℕ → Figures → ℕ × ℕ → ℕ → ℕ → Case
+ranges close f b floor ceiling =
+    record { asked = range close f; right = between-prices (record { numerator = b .0; denominator = b .1 }) (record { floor = floor; ceiling = ceiling }) }
+
+abbrev pub figuresOf : ℕ → ℕ → ℕ → ℕ → Figures
+figuresOf dividend subscription old new = record { dividend = dividend; subscription = subscription; «old_shares» = old; «new_shares» = new }
+
+abbrev pub noFigures : Figures
+noFigures = figuresOf 0 0 0 0
 
 -- a history and the verdict on the order at its end
 abbrev pub judged : List (List ℕ) → List ℕ → Verdict → Case
@@ -92,6 +110,10 @@ atMarket = session 2 ∷ prices 0 0 0 0 0 5025 ∷ order 0 1 0 0 0 3 0 0 100_000
 -- session 1 with the prior close 65.60 and no other price
 abbrev pub adjusted : List (List ℕ)
 adjusted = setup 0 100 0 0 6560 0 ∷ session 1 ∷ []
+
+-- session 2, a prior close of 150.00, and three new shares for two at 10.00
+abbrev pub withRight : List (List ℕ)
+withRight = setup 0 100 0 0 15_000 0 ∷ figures 0 0 1000 2 3 ∷ session 2 ∷ []
 
 abbrev pub cases : List Case
 cases =
@@ -155,8 +177,34 @@ cases =
     ∷ judged adjusted (onlineBuy 1 6825 100) Warn10
     ∷ judged adjusted (onlineBuy 1 6325 100) Accept
     ∷ judged adjusted (onlineBuy 1 6300 100) Warn10
+    -- paper 02, 3: "150.00 with 2 old, 3 new at 10.00 gives base 66.00, ceiling 85.75, floor 46.25"
+    ∷ ranges 15_000 (figuresOf 0 1000 2 3) (33_000, 5) 4625 8575
+    ∷ judged withRight (office 1 4600 100) RejectC
+    ∷ judged withRight (office 1 4625 100) Accept
+    ∷ judged withRight (office 1 4650 100) Accept
+    ∷ judged withRight (office 1 8550 100) Accept
+    ∷ judged withRight (office 1 8575 100) Accept
+    ∷ judged withRight (office 1 8600 100) RejectC
+    -- "without kind 9 figures it is the prior close": 10.00 and 65.60, between two steps
+    ∷ ranges 1000 noFigures (1000, 1) 700 1300
+    ∷ ranges 6560 noFigures (6560, 1) 4600 8525
+    -- "With a prior close below 1.00 baht": 0.99, whatever the figures; 1.00
+    ∷ ranges 99 noFigures (99, 1) 1 198
+    ∷ ranges 99 (figuresOf 98 0 1 1) (1, 2) 1 198
+    ∷ ranges 100 noFigures (100, 1) 70 130
+    -- "the smaller": figures that would raise it, and the largest subscription with 65,535 new shares, leave the prior close
+    ∷ ranges 1000 (figuresOf 0 1001 1 1) (1000, 1) 700 1300
+    ∷ ranges 1000 (figuresOf 0 4_294_967_295 1 65_535) (1000, 1) 700 1300
+    -- a dividend one satang below the close: a base of 0.01, and with 65,535 new shares for nothing of a 65,536th of it
+    ∷ ranges 1000 (figuresOf 999 0 1 0) (1, 1) 1 1
+    ∷ ranges 1000 (figuresOf 999 0 1 65_535) (1, 65_536) 1 1
+    -- "at most 10,000,000"
+    ∷ ranges 10_000_000 noFigures (10_000_000, 1) 7_000_000 10_000_000
+    ∷ ranges 10_000_000 (figuresOf 9_999_999 4_294_967_295 65_535 65_535) (10_000_000, 1) 7_000_000 10_000_000
+    -- 70% of 1.5 satang is above 0.01 and 130% below 0.02: the floor is above the ceiling
+    ∷ ranges 100 (figuresOf 99 2 1 1) (3, 2) 2 1
     ∷ []
 
 pub all-right : map (λ (c : Case). find (c .asked)) cases ≡ map (λ (c : Case). c .right) cases
-unfolding positionOf nearestTo legal bandOfPrice lastBand answersOf
+unfolding positionOf nearestTo legal bandOfPrice lastBand baseOf rangeOf floorOf ceilingOf answersOf
 all-right = refl

@@ -2,15 +2,19 @@
 -- under the sentence that it proves. The definitions that it names are in crates/definitions/specs, but for those that stand beside their laws: `FoundFirst` in Refused.antt, `Good`,
 -- a well-formed state, in WellFormed.antt, `AppliesFirst` in Verdicts.antt, `Belongs` in Ownership.antt, what a counter counts in Counters.antt, what a
 -- session change leaves in SessionChange.antt, `StandsIn` in Standing.antt, a row as a cancel marks it in Minute.antt, the session of an ATO, ATC or MP row
--- in SessionRows.antt, `RestLimited` and `withoutMpRows` in RestRows.antt, `MpRow` in SoundRow.antt, and warn 10 on a step and between two in AdjustedClose.antt. That the code does what `outcome` says is the contract of `gate::handle`.
+-- in SessionRows.antt, `RestLimited` and `withoutMpRows` in RestRows.antt, `MpRow` in SoundRow.antt, warn 10 on a step and between two in AdjustedClose.antt, `Smaller`, `DayRange` and C by the
+-- base in CeilingFloor.antt, `IsCeiling` and `IsFloor` in RangeLaws.antt, `NoneWithin` in RangeEmpty.antt, and what changes figures in FiguresSet.antt. That the code does what `outcome` says is the contract of `gate::handle`.
 -- Assumes nothing.
 use mathlib.Core.Bool.{Bool, true, not, false}
 use mathlib.Core.List.{List}
-use mathlib.Core.Logic.{_↔_}
+use mathlib.Core.Logic.{_↔_, _⊎_}
 use mathlib.Core.Path.{_≡_, ap, sym, _∙_}
 use Prim.Native.Nat.{ℕ, _+_, _≤_, _<_}
 use Rattle.ladder.specs.Bands.{lastPrice, positions}
 use Rattle.ladder.specs.Ladder.{legal, priceAt}
+use Rattle.definitions.specs.declared.Figures.{Figures}
+use Rattle.definitions.specs.declared.DailyRange.the-variants as daily
+use Rattle.definitions.specs.declared.SecurityFigures.{SecurityFigures}
 use Rattle.definitions.specs.declared.Row.{Row}
 use Rattle.definitions.specs.declared.MarketView.{MarketView}
 use Rattle.definitions.specs.declared.Setup.{Setup}
@@ -23,10 +27,10 @@ use Rattle.definitions.specs.declared.Event.the-variants as event
 use Rattle.definitions.specs.declared.Verdict.{Verdict}
 use Rattle.definitions.specs.declared.Answer.{Answer}
 use Rattle.definitions.specs.declared.Answer.the-variants as answer
-use Rattle.definitions.specs.Codes.{openMark, cancelledMark, limit, mp}
+use Rattle.definitions.specs.Codes.{openMark, cancelledMark, limit, mp, maxShares}
 use Rattle.definitions.specs.Lists.{any, all, keep, count, firstMet}
-use Rattle.definitions.specs.State.{headerOf, sizesFit, fresh, securityAt, deskAt, putDesk, deskWords, stateFits}
-use Rattle.definitions.specs.Gate.{answerOf, wordsOf, recordsSound, conditions, marketViewAt, viewAt, verdictAt, orderedAt, perform, outcome, eventAnswer, eventWords, wordsAfter, answersTo}
+use Rattle.definitions.specs.State.{noFigures, headerOf, sizesFit, fresh, securityAt, deskAt, putDesk, deskWords, stateFits}
+use Rattle.definitions.specs.Gate.{answerOf, wordsOf, recordsSound, dailyRange, conditions, marketViewAt, viewAt, verdictAt, orderedAt, perform, outcome, eventAnswer, eventWords, wordsAfter, answersTo}
 use Rattle.definitions.specs.Lone.{Lone, loneFresh, loneAfter, loneAnswers, isFed, marketWords, customerWords}
 use Rattle.definitions.proofs.State as state
 use Rattle.definitions.proofs.WellFormed as wellFormed
@@ -51,11 +55,17 @@ use Rattle.definitions.proofs.RestRows as restRows
 use Rattle.definitions.proofs.RestRows.{isRest, RestLimited, withoutMpRows}
 use Rattle.definitions.proofs.AdjustedClose as adjustedClose
 use Rattle.definitions.proofs.AdjustedClose.{warn10OnLadder, warn10Between}
+use Rattle.definitions.proofs.RangeEmpty.{NoneWithin}
+use Rattle.definitions.proofs.CeilingFloor as ceilingFloor
+use Rattle.definitions.proofs.CeilingFloor.{Smaller, DayRange, ruleCByBase}
+use Rattle.definitions.proofs.FiguresSet as figuresSet
+use Rattle.definitions.proofs.FiguresSet.{figuresBy}
 use Rattle.definitions.proofs.SoundRow as soundRow
 use Rattle.definitions.proofs.SoundRow.{MpRow}
 use Rattle.definitions.proofs.SoundDesk.{desk-true}
-use Rattle.definitions.specs.Sound.{priceOrAbsent, soundTerms, soundRow as soundRowTest}
-use Rattle.definitions.specs.Rules.{View, ruleW, reference10, warn10}
+use Rattle.definitions.specs.Sound.{priceOrAbsent, soundTerms, pricedAs, soundRow as soundRowTest}
+use Rattle.definitions.specs.Ranges.{base, baseOf, rangeOf, hasRange}
+use Rattle.definitions.specs.Rules.{View, ruleC, ruleW, reference10, warn10}
 use Rattle.definitions.specs.Events.{eventIn, bytesConditions}
 use Rattle.definitions.specs.Refusals.{badName}
 
@@ -235,8 +245,60 @@ module _ (customers securities : ℕ) (fit : sizesFit customers securities ≡ t
       → warn10 (marketViewAt (after history) s) o ≡ warn10OnLadder (marketViewAt (after history) s) o
   warn-10-as-before history = adjustedClose.legal-close (after history) (well-formed history)
 
+  -- Paper 02, 3: "The base is the smaller of the prior close and ..; without kind 9 figures it is the prior close."
+  pub base-smaller : (close : ℕ) (f : Figures) → 1 ≤ f .«old_shares» → Smaller close f (baseOf close f)
+  base-smaller = ceilingFloor.base-smaller
+
+  pub base-without-figures : (close : ℕ) → baseOf close noFigures ≡ base close 1
+  base-without-figures = ceilingFloor.base-without-figures
+
+  -- "securities that are not free and have a prior close" have a range, after every history, and no others
+  pub range-given : (history : List (List ℕ)) (s : ℕ) → s < securities → hasRange (securityAt (after history) s) ≡ true
+      → dailyRange (after history) s ≡ daily.Given (rangeOf (securityAt (after history) s .prior .close) (securityAt (after history) s .figures))
+  range-given history = ceilingFloor.range-given (after history) (well-formed history)
+
+  pub range-none : (history : List (List ℕ)) (s : ℕ) → s < securities → hasRange (securityAt (after history) s) ≡ false → dailyRange (after history) s ≡ daily.None
+  range-none history = ceilingFloor.range-none (after history) (well-formed history)
+
+  -- "Ceiling is 130% of the base, down to a legal price and at most 10,000,000; floor is 70%, up to one; both are at least 1. With a prior close below 1.00 baht the
+  -- floor is 0.01 and the ceiling twice the prior close." No other number is such a ceiling or floor (`one-ceiling`, `one-floor` of RangeLaws.antt).
+  pub range-in-words : (history : List (List ℕ)) (s : ℕ) → s < securities → hasRange (securityAt (after history) s) ≡ true
+      → DayRange (securityAt (after history) s .prior .close) (baseOf (securityAt (after history) s .prior .close) (securityAt (after history) s .figures))
+      (rangeOf (securityAt (after history) s .prior .close) (securityAt (after history) s .figures))
+  range-in-words history = ceilingFloor.range-in-words (after history) (well-formed history)
+
+  -- the floor is at most the ceiling, but for a base between 10/7 and 20/13 satang (docs/DECISIONS.md has one)
+  pub range-not-empty : (history : List (List ℕ)) (s : ℕ) → s < securities → hasRange (securityAt (after history) s) ≡ true → 100 ≤ securityAt (after history) s .prior .close
+      → (rangeOf (securityAt (after history) s .prior .close) (securityAt (after history) s .figures) .floor ≤ rangeOf (securityAt (after history) s .prior .close) (securityAt (after history) s .figures) .ceiling)
+      ↔ (NoneWithin (baseOf (securityAt (after history) s .prior .close) (securityAt (after history) s .figures)) → ⊥)
+  range-not-empty history = ceilingFloor.not-empty (after history) (well-formed history)
+
+  -- "a main-board limit outside the range is rejected with C": after every history, of every order whose price condition 6 lets pass, told by the base alone
+  pub c-by-base : (history : List (List ℕ)) (s : ℕ) → s < securities → (o : Order) → pricedAs (o .«order_type») (o .price) ≡ true
+      → ruleC (marketViewAt (after history) s) o ≡ ruleCByBase (marketViewAt (after history) s) o
+  c-by-base history = ceilingFloor.c-in-state (after history) (well-formed history)
+
+  -- "13 if old is 0 or the dividend is not below the prior close, checked after 8 on the security", and else ok: read whole, of a security below S. The shares of
+  -- bytes are at most 65,535 (`two-bytes` of FiguresSet.antt).
+  pub figures-taken : (history : List (List ℕ)) (x : SecurityFigures) → x .security < securities
+      → (b : List ℕ) → firstMet (bytesConditions b) ≡ 0 → eventIn b ≡ event.Figures x
+      → 1 ≤ x .figures .«old_shares» → x .figures .«old_shares» ≤ maxShares → x .figures .«new_shares» ≤ maxShares
+      → x .figures .dividend < securityAt (after history) (x .security) .prior .close → eventAnswer (after history) b ≡ answer.Ok
+  figures-taken history = figuresSet.figures-taken (after history) (well-formed history)
+
+  pub figures-refused : (history : List (List ℕ)) (x : SecurityFigures) → x .security < securities
+      → (b : List ℕ) → firstMet (bytesConditions b) ≡ 0 → eventIn b ≡ event.Figures x
+      → (x .figures .«old_shares» ≡ 0) ⊎ (securityAt (after history) (x .security) .prior .close ≤ x .figures .dividend)
+      → eventAnswer (after history) b ≡ answer.Refused 13
+  figures-refused history = figuresSet.figures-refused (after history) (well-formed history)
+
+  -- "New kind 9", "kind 3 clears it": they alone change figures, and those of their own security
+  pub figures-done : (history : List (List ℕ)) (b : List ℕ) (s : ℕ) → s < securities → Unrefused (after history) b
+      → securityAt (eventWords (after history) b) s .figures ≡ figuresBy (eventIn b) s (securityAt (after history) s .figures)
+  figures-done history = figuresSet.figures-done (after history) (well-formed history)
+
   -- "Kinds 5 to 7 belong to the customer they name; 1 to 4 .. are market events. An event that meets condition 2 or 3 below, or one with a customer of C or
-  -- more, belongs to nobody."; paper 02, 1, of kind 8: "The event belongs to its customer."
+  -- more, belongs to nobody."; paper 02, 1, of kind 8: "The event belongs to its customer."; kind 9 names none, and is the market's
   pub belongs : (b : List ℕ) → Belongs customers b
   belongs b = ownership.belongs customers b
 

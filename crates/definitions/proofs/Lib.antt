@@ -37,6 +37,9 @@ pub mod SessionRows
 pub mod RestRows
 pub mod AdjustedClose
 pub mod RangeLaws
+pub mod RangeEmpty
+pub mod CeilingFloor
+pub mod FiguresSet
 -- the three demands
 pub mod Demands
 -- the paper's cases
@@ -53,5 +56,6 @@ pub mod RowCorners
 pub mod DoneCorners
 pub mod RestCorners
 pub mod CloseCorners
+pub mod RangeCorners
 pub mod EventCases
 pub mod AnswerCases

@@ -37,7 +37,7 @@ pub record IsFloor (b : Base) (f : ℕ) : Type 0 where
   pub within : 70 * b .numerator ≤ f * (100 * b .denominator)
   pub none-less : (p : ℕ) → legal p ≡ true → 70 * b .numerator ≤ p * (100 * b .denominator) → f ≤ p
 
-first-legal : legal 1 ≡ true
+pub first-legal : legal 1 ≡ true
 unfolding legal bandOfPrice lastBand
 first-legal = refl
 
@@ -69,7 +69,7 @@ module _ (n d : ℕ) (some : 0 < d) where
       let below : wholeUp n d < p + 1 = div-lt-iff-lt-mul {k = d} {x = n + (d - 1)} {y = p + 1} some .1 (omega (arith, next p, some)) in
       omega arith
 
-by-contra-lt : {m n : ℕ} → (n ≤ m → ⊥) → m < n
+pub by-contra-lt : {m n : ℕ} → (n ≤ m → ⊥) → m < n
 by-contra-lt never = omega (arith, never)
 
 -- two tests that say the same

@@ -1,0 +1,130 @@
+-- Paper 02, 3, kind 9: it is refused with 13 where the paper says so and nowhere else, and it and kind 3 alone change the figures of a security.
+-- Assumes nothing.
+use mathlib.Core.Bool.{Bool, true, false, cond, _&&_, not, and-false}
+use mathlib.Core.List.{List}
+use mathlib.Core.Logic.{_⊎_, ⊎-elim}
+use mathlib.Core.Path.{_≡_, refl, ap, sym, _∙_}
+use Prim.Native.Nat.{ℕ, _+_, _≤_, _<_}
+use native.Mathlib.Omega.{arith}
+use lib.Dec.{leb, eqb, lit≤, lit<}
+use lib.ListN.{length, getD}
+use borrow.Author.Tests.{eq-eqb, ne-eqb, le-leb, lt-leb, lt-ltb, le-ltb}
+use Rattle.definitions.specs.declared.Figures.{Figures}
+use Rattle.definitions.specs.declared.Security.{Security}
+use Rattle.definitions.specs.declared.SecurityFigures.{SecurityFigures}
+use Rattle.definitions.specs.declared.BoardPrices.{BoardPrices}
+use Rattle.definitions.specs.declared.Row.{Row}
+use Rattle.definitions.specs.declared.Event.{Event}
+use Rattle.definitions.specs.declared.Event.the-variants as event
+use Rattle.definitions.specs.declared.Answer.the-variants as answer
+use Rattle.definitions.specs.Codes.{foreignBoard, deskRows, maxShares}
+use Rattle.definitions.specs.Lists.{firstMet}
+use Rattle.definitions.specs.State.{noFigures, headerOf, securityAt, deskAt}
+use Rattle.definitions.specs.Sound.{settable}
+use Rattle.definitions.specs.Events.{two, eventIn, bytesConditions}
+use Rattle.definitions.specs.Desks.{cancelledRow, matchedRow, restRow, changed}
+use Rattle.definitions.specs.Refusals.{badName}
+use Rattle.definitions.specs.Gate.{Outcome, answerOf, wordsOf, afterSetup, afterPrices, afterFigures, changeSecurity, changeDesk, afterSession, perform, refusedOr, eventAnswer, eventWords}
+use Rattle.definitions.proofs.Tests.{either}
+use Rattle.definitions.proofs.Passed.{Passed, table, passed, none-met-event, outcome-read}
+use Rattle.definitions.proofs.WellFormed.{Good, fits, compared, records-sound, below-securities, order-names, badCustomer, customer-named}
+use Rattle.definitions.proofs.SoundDesk as desk
+use Rattle.definitions.proofs.State as state
+use Rattle.definitions.proofs.HeaderWords as words
+use Rattle.definitions.proofs.SessionChange.{changed-words}
+use Rattle.definitions.proofs.Refused.{unrefused, unrefused-performs}
+
+-- what an event that is done leaves of the figures of security s: "New kind 9", "kind 3 clears it", and no other
+abbrev pub figuresBy : Event → ℕ → Figures → Figures
+figuresBy (event.Clock t) s f = f
+figuresBy (event.Session t) s f = f
+figuresBy (event.Setup x) s f = cond (eqb (x .security) s) noFigures f
+figuresBy (event.Prices x) s f = f
+figuresBy (event.Order k x) s f = f
+figuresBy (event.Cancel k x) s f = f
+figuresBy (event.Match k x) s f = f
+figuresBy (event.Rest k x) s f = f
+figuresBy (event.Figures x) s f = cond (eqb (x .security) s) (x .figures) f
+
+-- the shares of an event: "old shares (2), new shares (2)"
+pub two-bytes : (b : List ℕ) (at : ℕ) → getD b at 0 < 256 → getD b (at + 1) 0 < 256 → two b at ≤ maxShares
+two-bytes b at low high = omega (arith, low, high)
+
+module _ {customers securities : ℕ} (w : List ℕ) (good : Good customers securities w) where
+  module _ (x : SecurityFigures) (below : x .security < securities) (b : List ℕ) (read : firstMet (bytesConditions b) ≡ 0) (e : eventIn b ≡ event.Figures x) where
+    abbrev prior : ℕ
+    prior = securityAt w (x .security) .prior .close
+
+    abbrev x-figures : Figures
+    x-figures = x .figures
+
+    named : badName (headerOf w) (event.Figures x) ≡ false
+    named = lt-leb (headerOf w .securities) (x .security) (rw (good .sized .counted) below)
+
+    answer-is : (n : ℕ) → firstMet (table w (event.Figures x)) ≡ n → eventAnswer w b ≡ answerOf (refusedOr n (perform w (event.Figures x)))
+    answer-is n first = ap answerOf (outcome-read w b (fits w good)) ∙ rw (read, e, first)
+
+    by-test : (t : Bool) → settable prior x-figures ≡ t → eventAnswer w b ≡ cond t answer.Ok (answer.Refused 13)
+    unfolding firstMet perform
+    by-test true taken = answer-is 0 (rw (named, records-sound w good (event.Figures x) named, taken))
+    by-test false not-taken = answer-is 13 (rw (named, records-sound w good (event.Figures x) named, not-taken))
+
+    -- "a new kind .. is answered ok": read whole, of a security below S, with shares, and a dividend below the prior close
+    pub figures-taken : 1 ≤ x-figures .«old_shares» → x-figures .«old_shares» ≤ maxShares → x-figures .«new_shares» ≤ maxShares → x-figures .dividend < prior
+        → eventAnswer w b ≡ answer.Ok
+    figures-taken some old new small =
+        by-test true (rw (le-leb 1 (x-figures .«old_shares») some, le-leb (x-figures .«old_shares») maxShares old, le-leb (x-figures .«new_shares») maxShares new, lt-ltb (x-figures .dividend) prior small))
+
+    -- "13 if old is 0 or the dividend is not below the prior close"
+    pub figures-refused : (x-figures .«old_shares» ≡ 0) ⊎ (prior ≤ x-figures .dividend) → eventAnswer w b ≡ answer.Refused 13
+    figures-refused =
+        ⊎-elim
+        (λ none. by-test false (rw (lt-leb 1 (x-figures .«old_shares») (omega (arith, none)))))
+        (λ large. by-test false (rw (le-ltb (x-figures .dividend) prior large, and-false (leb 1 (x-figures .«old_shares») && leb (x-figures .«old_shares») maxShares && leb (x-figures .«new_shares») maxShares))))
+
+  -- the figures of security s after a change of security t
+  figures-changed : (f : Security → Security) (t : ℕ) → t < securities → (s : ℕ) → s < securities
+      → securityAt (changeSecurity f t w) s .figures ≡ cond (eqb t s) (f (securityAt w s) .figures) (securityAt w s .figures)
+  figures-changed f t t-below s s-below =
+      let x = f (securityAt w t) in
+      ⊎-elim
+      (λ less. rw (ne-eqb t s (λ same. omega (arith, less, same))) (ap (λ (y : Security). y .figures) (state.security-put-below w (good .sized) t t-below x s less)))
+      (⊎-elim
+      (λ same. rw (eq-eqb t s (sym same)) (ap (λ (y : Security). y .figures) (ap (securityAt (changeSecurity f t w)) same ∙ state.security-put-same w (good .sized) t t-below x) ∙ ap (λ (i : ℕ). f (securityAt w i) .figures) (sym same)))
+      (λ more. rw (ne-eqb t s (λ same. omega (arith, more, same))) (ap (λ (y : Security). y .figures) (state.security-put-above w (good .sized) t t-below x s more))))
+      (compared s t)
+
+  prices-keep : (x : BoardPrices) (y : Security) → afterPrices x y .figures ≡ y .figures
+  unfolding afterPrices
+  prices-keep x y = either (λ (z : Security). z .figures ≡ y .figures) (eqb (x .board) foreignBoard) _ _ (λ _. refl) (λ _. refl)
+
+  rows-whole : (k : ℕ) → length (deskAt w k .rows) ≡ deskRows
+  rows-whole k = state.length-desk-rows w (good .sized) k
+
+  desk-keeps : (k : ℕ) → badCustomer w k ≡ false → (f : Row → Row) (s : ℕ) → s < securities → securityAt (changeDesk (changed f) k w) s .figures ≡ securityAt w s .figures
+  desk-keeps k named f s s-below =
+      ap (λ (y : Security). y .figures) (state.security-put-desk w (good .sized) k (customer-named w good k named) _ (desk.length-changed f (deskAt w k) ∙ rows-whole k) s s-below)
+
+  pub figures-performed : (e : Event) → Passed w e → (s : ℕ) → s < securities → securityAt (wordsOf w (perform w e)) s .figures ≡ figuresBy e s (securityAt w s .figures)
+  unfolding perform afterSession afterSetup afterFigures
+  figures-performed (event.Clock t) p s below = ap (λ (y : Security). y .figures) (words.security-put w (good .sized) 2 (lit≤ tt) (lit< tt) t s)
+  figures-performed (event.Session t) p s below =
+      either (λ (v : List ℕ). securityAt v s .figures ≡ securityAt w s .figures) (eqb t (headerOf w .session)) _ _ (λ _. refl) (λ _. changed-words w good t .security s below .figures)
+  figures-performed (event.Setup x) p s below = figures-changed (afterSetup x) (x .security) (below-securities w good (x .security) (passed 4 w (event.Setup x) p)) s below
+  figures-performed (event.Prices x) p s below =
+      figures-changed (afterPrices x) (x .security) (below-securities w good (x .security) (passed 4 w (event.Prices x) p)) s below
+      ∙ either (λ (g : Figures). g ≡ securityAt w s .figures) (eqb (x .security) s) _ _ (λ _. prices-keep x (securityAt w s)) (λ _. refl)
+  figures-performed (event.Order k x) p s below =
+      ap (λ (y : Security). y .figures)
+      (state.security-put-desk w (good .sized) k (order-names w good k (x .security) (passed 4 w (event.Order k x) p) .0) _
+      (desk.length-ordered _ (headerOf w .clock) x (deskAt w k) ∙ rows-whole k) s below)
+  figures-performed (event.Cancel k x) p s below = desk-keeps k (passed 4 w (event.Cancel k x) p) (cancelledRow (x .number) (headerOf w .clock)) s below
+  figures-performed (event.Match k x) p s below = desk-keeps k (passed 4 w (event.Match k x) p) (matchedRow (x .number) (x .volume)) s below
+  figures-performed (event.Rest k x) p s below = desk-keeps k (passed 4 w (event.Rest k x) p) (restRow (x .number) (x .price)) s below
+  figures-performed (event.Figures x) p s below = figures-changed (afterFigures x) (x .security) (below-securities w good (x .security) (passed 4 w (event.Figures x) p)) s below
+
+  -- "New kind 9", "kind 3 clears it": they alone change figures, and those of their own security
+  pub figures-done : (b : List ℕ) (s : ℕ) → s < securities → ((n : ℕ) → eventAnswer w b ≡ answer.Refused n → ⊥) → securityAt (eventWords w b) s .figures ≡ figuresBy (eventIn b) s (securityAt w s .figures)
+  figures-done b s below answered =
+      ap (λ (o : Outcome). securityAt (wordsOf w o) s .figures) (unrefused-performs w b answered)
+      ∙ figures-performed (eventIn b) (none-met-event w b (unrefused w b answered)) s below
