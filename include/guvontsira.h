@@ -20,9 +20,9 @@
  * little-endian there, as the fields of events are everywhere: words that are
  * kept in a file can be lent again by any program on such a machine.
  *
- * A call takes less than GUVONTSIRA_STACK_BYTES of the caller's stack: 8,512
- * measured, for a limit order before the opening, and 9,048 where a lazy dynamic
- * linker looks up memcpy during it, which is more or less by the processor.
+ * A call takes less than GUVONTSIRA_STACK_BYTES of the caller's stack: 8,544
+ * measured, for a limit order before the opening. A lazy dynamic linker that
+ * looks up memcpy during a call takes its own on top, some hundred bytes.
  */
 #ifndef GUVONTSIRA_H
 #define GUVONTSIRA_H
