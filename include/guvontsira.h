@@ -12,8 +12,9 @@
  * (a count of its type) and aligned for its type, also where that length is 0:
  * never null. The words and the answers overlap nothing else that is handed in,
  * and nobody else reads or writes them, or writes the bytes and the lengths,
- * during a call. So one state must not be used by two calls
- * at once; calls on different states may run at the same time.
+ * during a call. So one state must not be used by two calls at once, but for the
+ * two that only read it (guvontsira_floor, guvontsira_ceiling); calls on different
+ * states may run at the same time.
  *
  * Link with libguvontsira.a, which needs only memcpy and memset. It is compiled
  * for x86-64 Linux. The words are in the machine's byte order, which is
@@ -355,8 +356,10 @@ size_t guvontsira_run_list(uint32_t *words, size_t word_count,
 
 /*
  * The day's range of a security on the main board, in satang; 0 where it has
- * none: it is free or has no prior close, or the gate would refuse an order for it
- * with 1, 4 or 8. Nothing is written.
+ * none: it is free or has no prior close, its number is not below the count of
+ * securities, its record is damaged, or the state does not fit. No desk is looked
+ * at, and nothing is written: these two may run at once on one state, as long as
+ * nobody writes its words meanwhile.
  *
  * The base is the prior close or, with figures, where it is smaller,
  *
@@ -510,9 +513,11 @@ static inline size_t guvontsira_rest_event(uint8_t *out, uint16_t customer, uint
 }
 
 /*
- * What the base of the day's range is worked out from once a right has gone: the
- * dividend of a share, and new shares that the holder of old shares may subscribe
- * to, each at the subscription price. They stand until a setup of the security.
+ * What a right that has gone takes from a prior close that is not adjusted for it:
+ * the dividend of a share, and new shares that the holder of old shares may
+ * subscribe to, each at the subscription price. They change the day's range alone,
+ * and stand until a setup of the security. With an adjusted prior close the same
+ * right would be taken off twice.
  */
 static inline size_t guvontsira_figures_event(uint8_t *out, uint16_t security, uint32_t dividend,
                                               uint32_t subscription, uint16_t old_shares,

@@ -22,15 +22,13 @@ use Rattle.definitions.specs.declared.DailyRange.the-variants as daily
 use Rattle.definitions.specs.Codes.{mainBoard, limit}
 use Rattle.definitions.specs.State.{noFigures, headerOf, securityAt}
 use Rattle.definitions.specs.Sound.{soundSecurity, pricedAs}
-use Rattle.definitions.specs.Events.{two}
 use Rattle.definitions.specs.Ranges.{base, adjusted, notAbove, baseOf, ceilingOf, floorOf, range, rangeOf, hasRange}
 use Rattle.definitions.specs.Rules.{outsideRange, coveredByC, ruleC}
 use Rattle.definitions.specs.Gate.{dailyRange, marketViewAt}
 use Rattle.definitions.proofs.Tests.{and-parts, joined-parts, and-same}
 use Rattle.definitions.proofs.SoundSecurity.{security-true}
-use Rattle.definitions.proofs.Passed.{passed}
 use Rattle.definitions.proofs.WellFormed.{Good, fits}
-use Rattle.definitions.proofs.RangeLaws.{IsCeiling, IsFloor, BaseOf, ceiling-is, floor-is, outside-is, base-is, range-asked, sound-range}
+use Rattle.definitions.proofs.RangeLaws.{IsCeiling, IsFloor, BaseBounds, ceiling-is, floor-is, outside-is, base-is, range-asked, sound-range}
 use Rattle.definitions.proofs.RangeEmpty.{NoneWithin, floor-at-most-ceiling}
 
 -- C once more, without a ceiling or a floor: a price above 130% of the base, or below 70%, as products; the least price is never above
@@ -71,7 +69,7 @@ unfolding baseOf
 base-without-figures close = refl
 
 -- the range, in the paper's words
-pub record DayRange (close : ℕ) (b : Base) (r : Range) : Type 0 where
+pub record RangeInWords (close : ℕ) (b : Base) (r : Range) : Type 0 where
   pub small-floor : close < 100 → r .floor ≡ 1
   pub small-ceiling : close < 100 → r .ceiling ≡ 2 * close
   pub floor : 100 ≤ close → IsFloor b (r .floor)
@@ -85,25 +83,25 @@ module _ (s : Security) (sound : soundSecurity s ≡ true) (present : 0 < s .pri
   abbrev ofBase : Base
   ofBase = baseOf close (s .figures)
 
-  bounds : BaseOf close ofBase
+  bounds : BaseBounds close ofBase
   bounds = base-is close (s .figures) (sound-range s sound .0) present
 
   reaches : 70 * ofBase .numerator ≤ lastPrice * (100 * ofBase .denominator)
-  reaches = omega (arith, bounds .most, mul-le-mul-right {m = close} {n = lastPrice} (ofBase .denominator) (sound-range s sound .1))
+  reaches = omega (arith, bounds .not-above-close, mul-le-mul-right {m = close} {n = lastPrice} (ofBase .denominator) (sound-range s sound .1))
 
-  pub range-is : DayRange close ofBase (rangeOf close (s .figures))
+  pub range-is : RangeInWords close ofBase (rangeOf close (s .figures))
   unfolding rangeOf
   range-is =
       record {
         small-floor = λ small. rw (lt-ltb close 100 small);
         small-ceiling = λ small. rw (lt-ltb close 100 small);
-        floor = λ large. rw (le-ltb close 100 large) (floor-is ofBase (bounds .shared) reaches);
-        ceiling = λ large. rw (le-ltb close 100 large) (ceiling-is ofBase (bounds .shared));
+        floor = λ large. rw (le-ltb close 100 large) (floor-is ofBase (bounds .denominator-some) reaches);
+        ceiling = λ large. rw (le-ltb close 100 large) (ceiling-is ofBase (bounds .denominator-some));
       }
 
   pub range-not-empty : 100 ≤ close → (rangeOf close (s .figures) .floor ≤ rangeOf close (s .figures) .ceiling) ↔ (NoneWithin ofBase → ⊥)
   unfolding rangeOf
-  range-not-empty large = rw (le-ltb close 100 large) (floor-at-most-ceiling ofBase (bounds .shared) reaches)
+  range-not-empty large = rw (le-ltb close 100 large) (floor-at-most-ceiling ofBase (bounds .denominator-some) reaches)
 
   outside-by-base : (p : ℕ) → legal p ≡ true → outsideRange (rangeOf close (s .figures)) p ≡ cByBase close ofBase p
   unfolding rangeOf
@@ -112,7 +110,7 @@ module _ (s : Security) (sound : soundSecurity s ≡ true) (present : 0 < s .pri
       go : (t : Bool) → outsideRange (cond t (range 1 (2 * close)) (range (floorOf ofBase) (ceilingOf ofBase))) p
           ≡ cond t (ltb (2 * close) p) (ltb (p * (100 * ofBase .denominator)) (70 * ofBase .numerator) || (ltb 1 p && ltb (130 * ofBase .numerator) (p * (100 * ofBase .denominator))))
       go true = rw (le-ltb p 1 (legal-true p on .above))
-      go false = outside-is ofBase (bounds .shared) reaches p on
+      go false = outside-is ofBase (bounds .denominator-some) reaches p on
 
 -- "not free", of a flag that is 0 or 1, and "have a prior close"
 not-free : (n : ℕ) → n ≤ 1 → not (eqb n 1) ≡ eqb n 0
@@ -149,7 +147,7 @@ module _ {customers securities : ℕ} (w : List ℕ) (good : Good customers secu
     has-close : hasRange here ≡ true → 0 < here .prior .close
     has-close ranged = ltb-true 0 _ (sym (some-close (here .prior .close)) ∙ and-parts (not (eqb (here .terms .free) 1)) (not (eqb (here .prior .close) 0)) ranged .1)
 
-    pub range-in-words : hasRange here ≡ true → DayRange (here .prior .close) (baseOf (here .prior .close) (here .figures)) (rangeOf (here .prior .close) (here .figures))
+    pub range-in-words : hasRange here ≡ true → RangeInWords (here .prior .close) (baseOf (here .prior .close) (here .figures)) (rangeOf (here .prior .close) (here .figures))
     range-in-words ranged = range-is here (good .securities-sound s below) (has-close ranged)
 
     pub not-empty : hasRange here ≡ true → 100 ≤ here .prior .close
@@ -162,3 +160,7 @@ module _ {customers securities : ℕ} (w : List ℕ) (good : Good customers secu
 
     pub c-in-state : (o : Order) → pricedAs (o .«order_type») (o .price) ≡ true → ruleC (marketViewAt w s) o ≡ ruleCByBase (marketViewAt w s) o
     c-in-state o = c-by-base (marketViewAt w s) o (good .securities-sound s below)
+
+  pub range-beyond : (s : ℕ) → securities ≤ s → dailyRange w s ≡ daily.None
+  unfolding dailyRange
+  range-beyond s past = rw (fits w good, le-ltb s (headerOf w .securities) (omega (arith, past, good .sized .counted)))

@@ -2,7 +2,7 @@
 -- under the sentence that it proves. The definitions that it names are in crates/definitions/specs, but for those that stand beside their laws: `FoundFirst` in Refused.antt, `Good`,
 -- a well-formed state, in WellFormed.antt, `AppliesFirst` in Verdicts.antt, `Belongs` in Ownership.antt, what a counter counts in Counters.antt, what a
 -- session change leaves in SessionChange.antt, `StandsIn` in Standing.antt, a row as a cancel marks it in Minute.antt, the session of an ATO, ATC or MP row
--- in SessionRows.antt, `RestLimited` and `withoutMpRows` in RestRows.antt, `MpRow` in SoundRow.antt, warn 10 on a step and between two in AdjustedClose.antt, `Smaller`, `DayRange` and C by the
+-- in SessionRows.antt, `RestLimited` and `withoutMpRows` in RestRows.antt, `MpRow` in SoundRow.antt, warn 10 on a step and between two in AdjustedClose.antt, `Smaller`, `RangeInWords` and C by the
 -- base in CeilingFloor.antt, `IsCeiling` and `IsFloor` in RangeLaws.antt, `NoneWithin` in RangeEmpty.antt, and what changes figures in FiguresSet.antt. That the code does what `outcome` says is the contract of `gate::handle`.
 -- Assumes nothing.
 use mathlib.Core.Bool.{Bool, true, not, false}
@@ -29,7 +29,7 @@ use Rattle.definitions.specs.declared.Answer.{Answer}
 use Rattle.definitions.specs.declared.Answer.the-variants as answer
 use Rattle.definitions.specs.Codes.{openMark, cancelledMark, limit, mp, maxShares}
 use Rattle.definitions.specs.Lists.{any, all, keep, count, firstMet}
-use Rattle.definitions.specs.State.{noFigures, headerOf, sizesFit, fresh, securityAt, deskAt, putDesk, deskWords, stateFits}
+use Rattle.definitions.specs.State.{noFigures, headerOf, sizesFit, fresh, securityAt, deskAt, putSecurity, putDesk, deskWords, stateFits}
 use Rattle.definitions.specs.Gate.{answerOf, wordsOf, recordsSound, dailyRange, conditions, marketViewAt, viewAt, verdictAt, orderedAt, perform, outcome, eventAnswer, eventWords, wordsAfter, answersTo}
 use Rattle.definitions.specs.Lone.{Lone, loneFresh, loneAfter, loneAnswers, isFed, marketWords, customerWords}
 use Rattle.definitions.proofs.State as state
@@ -57,9 +57,9 @@ use Rattle.definitions.proofs.AdjustedClose as adjustedClose
 use Rattle.definitions.proofs.AdjustedClose.{warn10OnLadder, warn10Between}
 use Rattle.definitions.proofs.RangeEmpty.{NoneWithin}
 use Rattle.definitions.proofs.CeilingFloor as ceilingFloor
-use Rattle.definitions.proofs.CeilingFloor.{Smaller, DayRange, ruleCByBase}
+use Rattle.definitions.proofs.CeilingFloor.{Smaller, RangeInWords, ruleCByBase}
 use Rattle.definitions.proofs.FiguresSet as figuresSet
-use Rattle.definitions.proofs.FiguresSet.{figuresBy}
+use Rattle.definitions.proofs.FiguresSet.{withFigures, figuresBy}
 use Rattle.definitions.proofs.SoundRow as soundRow
 use Rattle.definitions.proofs.SoundRow.{MpRow}
 use Rattle.definitions.proofs.SoundDesk.{desk-true}
@@ -260,10 +260,13 @@ module _ (customers securities : ℕ) (fit : sizesFit customers securities ≡ t
   pub range-none : (history : List (List ℕ)) (s : ℕ) → s < securities → hasRange (securityAt (after history) s) ≡ false → dailyRange (after history) s ≡ daily.None
   range-none history = ceilingFloor.range-none (after history) (well-formed history)
 
+  pub range-beyond : (history : List (List ℕ)) (s : ℕ) → securities ≤ s → dailyRange (after history) s ≡ daily.None
+  range-beyond history = ceilingFloor.range-beyond (after history) (well-formed history)
+
   -- "Ceiling is 130% of the base, down to a legal price and at most 10,000,000; floor is 70%, up to one; both are at least 1. With a prior close below 1.00 baht the
   -- floor is 0.01 and the ceiling twice the prior close." No other number is such a ceiling or floor (`one-ceiling`, `one-floor` of RangeLaws.antt).
   pub range-in-words : (history : List (List ℕ)) (s : ℕ) → s < securities → hasRange (securityAt (after history) s) ≡ true
-      → DayRange (securityAt (after history) s .prior .close) (baseOf (securityAt (after history) s .prior .close) (securityAt (after history) s .figures))
+      → RangeInWords (securityAt (after history) s .prior .close) (baseOf (securityAt (after history) s .prior .close) (securityAt (after history) s .figures))
       (rangeOf (securityAt (after history) s .prior .close) (securityAt (after history) s .figures))
   range-in-words history = ceilingFloor.range-in-words (after history) (well-formed history)
 
@@ -291,6 +294,11 @@ module _ (customers securities : ℕ) (fit : sizesFit customers securities ≡ t
       → (x .figures .«old_shares» ≡ 0) ⊎ (securityAt (after history) (x .security) .prior .close ≤ x .figures .dividend)
       → eventAnswer (after history) b ≡ answer.Refused 13
   figures-refused history = figuresSet.figures-refused (after history) (well-formed history)
+
+  -- kind 9 changes these four words of its security, and no other
+  pub figures-alone : (history : List (List ℕ)) (b : List ℕ) (x : SecurityFigures) → eventIn b ≡ event.Figures x → Unrefused (after history) b
+      → eventWords (after history) b ≡ putSecurity (after history) (x .security) (withFigures (x .figures) (securityAt (after history) (x .security)))
+  figures-alone history = figuresSet.figures-alone (after history)
 
   -- "New kind 9", "kind 3 clears it": they alone change figures, and those of their own security
   pub figures-done : (history : List (List ℕ)) (b : List ℕ) (s : ℕ) → s < securities → Unrefused (after history) b

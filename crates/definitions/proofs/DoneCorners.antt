@@ -1,11 +1,11 @@
 -- Paper 01, "Events": what each of its kinds does to the words, run on the definitions over two customers and three securities, and one theorem over the
--- whole. Kind 8 is in RestCorners.antt, kind 9 in RangeCorners.antt.
+-- whole. Kind 8 is in RestCorners.antt, the refusals of kind 9 in RangeCorners.antt.
 use mathlib.Core.List.{List, [], _∷_, _++_, map}
 use mathlib.Core.Path.{_≡_, refl}
 use Prim.Native.Nat.{ℕ, _+_}
 use lib.ListN.{drop, replicate}
 use Rattle.definitions.specs.declared.Verdict.the-variants.{RejectV, RejectW, Warn30, Accept}
-use Rattle.definitions.proofs.Bytes.{clock, session, setup, prices, cancel, match}
+use Rattle.definitions.proofs.Bytes.{clock, session, setup, prices, cancel, match, figures}
 use Rattle.definitions.specs.Lone.{marketWords, customerWords}
 use Rattle.definitions.proofs.Run.{resultOn}
 use Rattle.definitions.proofs.Corner.{Corner, Changes, Entry, found, right, done, verdict, joined, state, clockAt, sessionAt, securityAt, deskAt, rowAt, withFigures, security, terms, traded, counting, desk, main, foreign, buy, sell, limit, ato, atc, mp, online, entry, bytesOf, opened, cancelled}
@@ -121,6 +121,10 @@ corners =
     ∷ done (words 2) (prices 0 foreign 5 6 7 8) ((securityAt 0 + 9, traded 5 6 7 8) ∷ [])
     ∷ done (words 2) (prices 1 foreign 1 2 3 4) ((securityAt 1 + 9, traded 1 2 3 4) ∷ [])
     ∷ done (words 2) (prices 2 main 0 0 0 0) ((securityAt 2 + 5, traded 0 0 0 0) ∷ [])
+    -- paper 02, 3: kind 9 sets the figures, and nothing else
+    ∷ done (words 2) (figures 0 19 20 21 22) ((securityAt 0 + 13, 19 ∷ 20 ∷ 21 ∷ 22 ∷ []) ∷ [])
+    ∷ done (words 2) (figures 1 7_099 4_294_967_295 65_535 0) ((securityAt 1 + 13, 7_099 ∷ 4_294_967_295 ∷ 65_535 ∷ 0 ∷ []) ∷ [])
+    ∷ done (words 2) (figures 2 0 0 1 65_535) ((securityAt 2 + 13, 0 ∷ 0 ∷ 1 ∷ 65_535 ∷ []) ∷ [])
     -- "An accepted or warned order .. first removes that customer's rows cancelled more than 60,000 ms ago, then is added last."; since paper 02, 1, an MP order too
     ∷ verdict (words 2) (bytesOf 0 ordered) Accept ((deskAt 3 0, 11 ∷ []) ∷ rows 0 (withOrder ordered) ∷ [])
     ∷ verdict (words 2) (bytesOf 0 (entry 9 0 main buy limit online 1000 100)) Warn30

@@ -1,6 +1,6 @@
 -- Paper 02, 3, kind 9: it is refused with 13 where the paper says so and nowhere else, and it and kind 3 alone change the figures of a security.
 -- Assumes nothing.
-use mathlib.Core.Bool.{Bool, true, false, cond, _&&_, not, and-false}
+use mathlib.Core.Bool.{Bool, true, false, cond, _&&_, and-false}
 use mathlib.Core.List.{List}
 use mathlib.Core.Logic.{_⊎_, ⊎-elim}
 use mathlib.Core.Path.{_≡_, refl, ap, sym, _∙_}
@@ -19,7 +19,7 @@ use Rattle.definitions.specs.declared.Event.the-variants as event
 use Rattle.definitions.specs.declared.Answer.the-variants as answer
 use Rattle.definitions.specs.Codes.{foreignBoard, deskRows, maxShares}
 use Rattle.definitions.specs.Lists.{firstMet}
-use Rattle.definitions.specs.State.{noFigures, headerOf, securityAt, deskAt}
+use Rattle.definitions.specs.State.{noFigures, headerOf, securityAt, deskAt, putSecurity}
 use Rattle.definitions.specs.Sound.{settable}
 use Rattle.definitions.specs.Events.{two, eventIn, bytesConditions}
 use Rattle.definitions.specs.Desks.{cancelledRow, matchedRow, restRow, changed}
@@ -45,6 +45,16 @@ figuresBy (event.Cancel k x) s f = f
 figuresBy (event.Match k x) s f = f
 figuresBy (event.Rest k x) s f = f
 figuresBy (event.Figures x) s f = cond (eqb (x .security) s) (x .figures) f
+
+-- a security with other figures, and all else as it was
+abbrev pub withFigures : Figures → Security → Security
+withFigures f s = record { terms = s .terms; prior = s .prior; main = s .main; foreign = s .foreign; figures = f }
+
+-- over any words
+pub figures-alone : (w b : List ℕ) (x : SecurityFigures) → eventIn b ≡ event.Figures x → ((n : ℕ) → eventAnswer w b ≡ answer.Refused n → ⊥)
+    → eventWords w b ≡ putSecurity w (x .security) (withFigures (x .figures) (securityAt w (x .security)))
+unfolding perform afterFigures
+figures-alone w b x e answered = ap (wordsOf w) (unrefused-performs w b answered ∙ ap (perform w) e)
 
 -- the shares of an event: "old shares (2), new shares (2)"
 pub two-bytes : (b : List ℕ) (at : ℕ) → getD b at 0 < 256 → getD b (at + 1) 0 < 256 → two b at ≤ maxShares

@@ -3,14 +3,12 @@
 use mathlib.Core.List.{List, [], _∷_, _++_, map}
 use mathlib.Core.Path.{_≡_, refl}
 use Prim.Native.Nat.{ℕ, _+_}
-use Rattle.definitions.specs.declared.DailyRange.{DailyRange}
-use Rattle.definitions.specs.declared.DailyRange.the-variants as daily
 use Rattle.definitions.specs.declared.Verdict.{Verdict}
 use Rattle.definitions.specs.declared.Verdict.the-variants.{RejectS, RejectV, RejectC, RejectW, RejectP, Warn10, Accept}
 use Rattle.definitions.specs.Gate.{dailyRange, floorNumber, ceilingNumber}
-use Rattle.definitions.proofs.Bytes.{session, setup, prices, order, figures}
+use Rattle.definitions.proofs.Bytes.{session, setup, prices, figures}
 use Rattle.definitions.proofs.Run.{resultOn, performedOn}
-use Rattle.definitions.proofs.Corner.{Corner, Entry, found, performed, right, refused, done, verdict, judged, state, securityAt, deskAt, rowAt, withFigures, terms, traded, untraded, desk, main, foreign, buy, sell, limit, ato, atc, mp, office, online, dma, entry, bytesOf, opened, cancelled, follows}
+use Rattle.definitions.proofs.Corner.{Corner, Entry, found, performed, right, refused, done, judged, state, securityAt, withFigures, terms, traded, untraded, counting, desk, main, foreign, buy, sell, limit, ato, atc, mp, office, online, dma, entry, bytesOf, opened, cancelled}
 
 -- dividend, subscription, old and new shares
 abbrev pub set : ℕ → ℕ → ℕ → ℕ → List ℕ
@@ -183,6 +181,8 @@ given =
     ∷ ((damaged 15_000 (set 0 1000 0 3), 0), (0, 0))
     ∷ ((state 5_000 1 (withFigures none (terms 100 1 0 15_000 0) untraded untraded ∷ []) (desk [] ∷ []), 0), (0, 0))
     ∷ ((state 5_000 5 (ranged 15_000 none ∷ []) (desk [] ∷ []), 0), (0, 0))
+    -- behind the last security stands the first desk, whose first words may read as a sound one
+    ∷ ((state 5_000 1 (ranged 15_000 none ∷ []) (counting 1 0 0 (opened (entry 1 0 main buy limit online 5000 100) ∷ []) ∷ []), 1), (0, 0))
     ∷ (([], 0), (0, 0))
     ∷ []
 

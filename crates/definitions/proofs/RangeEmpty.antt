@@ -1,6 +1,6 @@
 -- Paper 02, 3: the floor is at most the ceiling but for one small stretch of bases, for which no legal price is within both.
 -- Assumes nothing.
-use mathlib.Core.Bool.{Bool, true, false, _||_, not}
+use mathlib.Core.Bool.{Bool, true, false, _||_}
 use mathlib.Core.Logic.{_⊎_, inl, inr, ⊎-elim, _↔_}
 use mathlib.Core.Path.{_≡_, refl, ap, sym, _∙_}
 use Prim.Native.Nat.{ℕ, zero, suc, _+_, _*_, _≤_, _<_}
@@ -17,12 +17,11 @@ use Rattle.ladder.proofs.NearestLaws as nearest
 use Rattle.ladder.proofs.LegalLaws as legalPrices
 use Rattle.definitions.specs.declared.Base.{Base}
 use Rattle.definitions.specs.Lists.{allBelow}
-use Rattle.definitions.specs.Events.{two}
-use Rattle.definitions.specs.Ranges.{base, wholeUp, ceilingOf, floorOf}
+use Rattle.definitions.specs.Ranges.{wholeUp, ceilingOf, floorOf}
 use Rattle.definitions.proofs.Tests.{and-parts, or-cases}
 use Rattle.definitions.proofs.RangeLaws.{IsCeiling, IsFloor, first-legal, by-contra-lt, up-reaches, up-most, ceiling-is, floor-is}
 
--- "if not always": the one place where no legal price is both at or above 70% and at or below 130%, the base between 10/7 and 20/13 satang
+-- the one place where no legal price is both at or above 70% and at or below 130%, the base between 10/7 and 20/13 satang
 abbrev pub NoneWithin : Base → Type 0
 NoneWithin b = (100 * b .denominator < 70 * b .numerator) × (130 * b .numerator < 200 * b .denominator)
 
@@ -161,7 +160,7 @@ module _ (b : Base) (some : 0 < b .denominator) (least : 70 * b .numerator ≤ l
           (λ more. ⊎-elim (within-small p (same ∙ omega arith) more) (within-large p (same ∙ omega arith)) (less-or-not p 199))
           (less-or-not p 2)
 
-  -- "floor at most ceiling" everywhere else
+  -- the floor is at most the ceiling everywhere else
   pub floor-at-most-ceiling : (floorOf b ≤ ceilingOf b) ↔ (NoneWithin b → ⊥)
   floor-at-most-ceiling = (
     λ most none. omega (arith, most, none-within none),

@@ -1,16 +1,16 @@
 -- Paper 02, 3, "Daily ceiling and floor": what the ceiling and the floor of a base are, in the paper's words and by no other number, and how a legal price is
 -- held against them without looking for them.
 -- Assumes nothing.
-use mathlib.Core.Bool.{Bool, true, false, cond, _&&_, _||_, not, or-false}
+use mathlib.Core.Bool.{Bool, true, false, _&&_, _||_, not, or-false}
 use mathlib.Core.List.{[], _∷_}
 use mathlib.Core.Logic.{_⊎_, inl, inr, ⊎-elim, _↔_}
-use mathlib.Core.Path.{_≡_, refl, ap, ap₂, sym, _∙_}
+use mathlib.Core.Path.{_≡_, refl, ap₂, sym, _∙_}
 use Prim.Native.Nat.{ℕ, zero, suc, _+_, _-_, _*_, _/_, _≤_, _<_, min, max}
 use native.Mathlib.Nat.{add-mul, le-div-iff-mul-le, div-lt-iff-lt-mul, mul-le-mul-right, mul-pos}
 use native.Mathlib.Omega.{arith}
 use lib.Dec.{leb, ltb, eqb, lit≤, lit<}
 use borrow.Author.Tests.{not-true, eqb-false, leb-true, ltb-true, lt-ltb}
-use Rattle.ladder.specs.Bands.{firstPrice, lastPrice}
+use Rattle.ladder.specs.Bands.{lastPrice}
 use Rattle.ladder.specs.Ladder.{bandOfPrice, lastBand, legal, legalDown, legalUp}
 use Rattle.ladder.proofs.Laws.{legal-true}
 use Rattle.ladder.proofs.LegalLaws as ladder
@@ -187,30 +187,30 @@ sound-settable close f sound some =
     (or-cases (zeroFigures f) (settable close f) sound)
 
 -- the base of sound figures: above 0, at most the prior close, and over the shares or over 1
-pub record BaseOf (close : ℕ) (b : Base) : Type 0 where
-  pub some : 0 < b .numerator
-  pub shared : 0 < b .denominator
-  pub few : b .denominator ≤ 131_070
-  pub most : b .numerator ≤ close * b .denominator
+pub record BaseBounds (close : ℕ) (b : Base) : Type 0 where
+  pub numerator-some : 0 < b .numerator
+  pub denominator-some : 0 < b .denominator
+  pub denominator-most : b .denominator ≤ 131_070
+  pub not-above-close : b .numerator ≤ close * b .denominator
 
-whole-base : (close : ℕ) → 0 < close → BaseOf close (base close 1)
-whole-base close present = record { some = present; shared = lit< tt; few = lit≤ tt; most = omega arith }
+whole-base : (close : ℕ) → 0 < close → BaseBounds close (base close 1)
+whole-base close present = record { numerator-some = present; denominator-some = lit< tt; denominator-most = lit≤ tt; not-above-close = omega arith }
 
-adjusted-base : (close : ℕ) (f : Figures) → Settable close f → notAbove (adjusted close f) close ≡ true → BaseOf close (adjusted close f)
+adjusted-base : (close : ℕ) (f : Figures) → Settable close f → notAbove (adjusted close f) close ≡ true → BaseBounds close (adjusted close f)
 adjusted-base close f set smaller =
     record {
-      some =
+      numerator-some =
           let left : 0 < (close - f .dividend) * f .«old_shares» = mul-pos (omega (arith, set .dividend)) (set .some) in
           omega arith;
-      shared = omega (arith, set .some);
-      few = omega (arith, set .old, set .new);
-      most = leb-true (adjusted close f .numerator) (close * adjusted close f .denominator) smaller;
+      denominator-some = omega (arith, set .some);
+      denominator-most = omega (arith, set .old, set .new);
+      not-above-close = leb-true (adjusted close f .numerator) (close * adjusted close f .denominator) smaller;
     }
 
-pub base-is : (close : ℕ) (f : Figures) → soundFigures close f ≡ true → 0 < close → BaseOf close (baseOf close f)
+pub base-is : (close : ℕ) (f : Figures) → soundFigures close f ≡ true → 0 < close → BaseBounds close (baseOf close f)
 unfolding baseOf
 base-is close f sound present =
-    either (BaseOf close) (hasFigures f && notAbove (adjusted close f) close) (adjusted close f) (base close 1)
+    either (BaseBounds close) (hasFigures f && notAbove (adjusted close f) close) (adjusted close f) (base close 1)
     (λ both.
     let parts = and-parts (hasFigures f) (notAbove (adjusted close f) close) both in
     adjusted-base close f (settable-true close f (sound-settable close f sound (not-true (eqb (f .«old_shares») 0) (parts .0)))) (parts .1))

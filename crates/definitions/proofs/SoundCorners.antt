@@ -2,10 +2,10 @@
 -- table.
 use mathlib.Core.List.{List, [], _∷_, _++_, map}
 use mathlib.Core.Path.{_≡_, refl}
-use Prim.Native.Nat.{ℕ}
+use Prim.Native.Nat.{ℕ, _+_}
 use lib.ListN.{replicate}
 use Rattle.definitions.specs.declared.Verdict.the-variants.{Accept}
-use Rattle.definitions.proofs.Bytes.{clock, session, setup, prices, order, cancel, match}
+use Rattle.definitions.proofs.Bytes.{clock, session, setup, prices, order, cancel, match, figures}
 use Rattle.definitions.proofs.Run.{resultOn}
 use Rattle.definitions.proofs.Corners.{bought, buys, twoCustomers}
 use Rattle.definitions.proofs.Corner.{Corner, found, right, refused, done, verdict, written, state, clockAt, securityAt, deskAt, rowAt, security, terms, traded, plain, untraded, desk, main, foreign, buy, sell, limit, ato, atc, mp, online, opened, cancelled, follows}
@@ -22,6 +22,10 @@ badSecurity s = written pair (securityAt s) (10 ∷ [])
 abbrev pub badDesk : ℕ → List ℕ
 badDesk k = written pair (rowAt 3 k 0) (3 ∷ [])
 
+-- with a prior close of 10.00, of which kind 9's figures may take something
+abbrev pub closed : List ℕ → List ℕ
+closed w = written w (securityAt 0 + 3) (1000 ∷ [])
+
 abbrev pub readers : List Corner
 readers =
     -- a session event reads every record, also where the session stays
@@ -31,9 +35,10 @@ readers =
     ∷ refused (badDesk 0) (session 2) 8
     ∷ refused (badDesk 1) (session 1) 8
     ∷ refused (written twoCustomers (rowAt 1 1 0) (3 ∷ [])) (session 2) 8
-    -- setup and prices read the security, and an order the security and its customer's desk
+    -- setup, prices and figures read the security, and an order the security and its customer's desk
     ∷ refused (badSecurity 0) (setup 0 100 0 0 0 0) 8
     ∷ refused (badSecurity 1) (prices 1 main 0 0 0 0) 8
+    ∷ refused (closed (badSecurity 0)) (figures 0 0 0 1 0) 8
     ∷ refused (badSecurity 0) (buys 0 2) 8
     ∷ refused (badSecurity 0) (buys 1 2) 8
     ∷ refused (badDesk 0) (buys 0 2) 8
@@ -53,6 +58,10 @@ readers =
     ∷ done (badSecurity 0) (cancel 0 1) ((rowAt 3 0 0, cancelled 5_000 (bought 1)) ∷ [])
     ∷ done (badDesk 0) (cancel 1 1) ((rowAt 3 1 0, cancelled 5_000 (bought 1)) ∷ [])
     ∷ done (badDesk 1) (match 0 1 100) ((rowAt 3 0 0, replicate 9 0) ∷ [])
+    ∷ done (badDesk 0) (prices 0 main 5000 0 0 0) ((securityAt 0 + 5, 5000 ∷ []) ∷ [])
+    ∷ done (badSecurity 0) (match 0 1 100) ((rowAt 3 0 0, replicate 9 0) ∷ [])
+    ∷ done (closed (badDesk 0)) (figures 0 0 0 1 0) ((securityAt 0 + 15, 1 ∷ []) ∷ [])
+    ∷ done (closed (badSecurity 1)) (figures 0 0 0 1 0) ((securityAt 0 + 15, 1 ∷ []) ∷ [])
     -- 4 to 7 come before it, and it before 9 and 10
     ∷ refused (badSecurity 0) (setup 3 100 0 0 0 0) 4
     ∷ refused (badDesk 0) (cancel 0 0) 5

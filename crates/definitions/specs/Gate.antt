@@ -10,7 +10,7 @@ use Rattle.definitions.specs.declared.Prices.{Prices}
 use Rattle.definitions.specs.declared.Figures.{Figures}
 use Rattle.definitions.specs.declared.Security.{Security}
 use Rattle.definitions.specs.declared.DailyRange.{DailyRange}
-use Rattle.definitions.specs.declared.DailyRange.the-variants as ranges
+use Rattle.definitions.specs.declared.DailyRange.the-variants as daily
 use Rattle.definitions.specs.declared.Desk.{Desk}
 use Rattle.definitions.specs.declared.MarketView.{MarketView}
 use Rattle.definitions.specs.declared.Setup.{Setup}
@@ -87,22 +87,22 @@ conditions w b =
     (1, not (stateFits w))
     ∷ (bytesConditions b ++ eventConditions (headerOf w) ((8, not (recordsSound w (eventIn b))) ∷ []) (viewOf w (eventIn b)) (eventIn b))
 
--- paper 02, 3: the range of a security, for an order ticket; none also where an order for it would meet condition 1, 4 or 8
+-- paper 02, 3: the range of a security, for an order ticket; none also where the state, the security's number or its record would refuse an order for it
 unfoldable pub dailyRange : List ℕ → ℕ → DailyRange
 dailyRange w s =
     cond
     (stateFits w && ltb s (headerOf w .securities) && soundSecurityAt w s && hasRange (securityAt w s))
-    (ranges.Given (rangeOf (securityAt w s .prior .close) (securityAt w s .figures)))
-    ranges.None
+    (daily.Given (rangeOf (securityAt w s .prior .close) (securityAt w s .figures)))
+    daily.None
 
 -- 0, the absent price, for none
 abbrev pub floorNumber : DailyRange → ℕ
-floorNumber (ranges.Given r) = r .floor
-floorNumber ranges.None = 0
+floorNumber (daily.Given r) = r .floor
+floorNumber daily.None = 0
 
 abbrev pub ceilingNumber : DailyRange → ℕ
-ceilingNumber (ranges.Given r) = r .ceiling
-ceilingNumber ranges.None = 0
+ceilingNumber (daily.Given r) = r .ceiling
+ceilingNumber daily.None = 0
 
 abbrev pub security : Terms → PriorPrices → Prices → Prices → Figures → Security
 security terms prior main foreign figures = record { terms = terms; prior = prior; main = main; foreign = foreign; figures = figures }

@@ -9,7 +9,7 @@ use native.Mathlib.Nat.{eq-or-lt-of-le}
 use native.Mathlib.Omega.{arith}
 use Rattle.ladder.specs.Bands.{firstPrice, lastPrice, positions}
 use Rattle.ladder.specs.Ladder.{bandOfPrice, lastBand, legal, legalDown, leastOfLast, legalUp, lowerNumber, nearestTo, positionIn, priceAt, upperNumber}
-use Rattle.ladder.proofs.Laws.{Has, legal-price, legal-true, legal-has, price-grows, price-order}
+use Rattle.ladder.proofs.Laws.{Has, legal-price, legal-true, legal-has, price-grows}
 use Rattle.ladder.proofs.NearestLaws.{NearestAt, numbers-nearest}
 
 pub record GreatestLegal (p g : ℕ) : Type 0 where

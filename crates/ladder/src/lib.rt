@@ -34,7 +34,7 @@ pub enum Nearest {
 }
 
 // The prices at two positions.
-pub struct PriceRange {
+pub struct PricePair {
     pub low: u32,
     pub high: u32,
 }
@@ -150,17 +150,17 @@ impl Ladder {
     }
 
     // The one function that reads the table, for both prices at once: a call builds the whole array on its stack (docs/DECISIONS.md).
-    pub fn prices(low: u32, high: u32) -> PriceRange
+    pub fn prices(low: u32, high: u32) -> PricePair
         ensures { λ r. ⌜ (r .low ≡ priceAt low) × (r .high ≡ priceAt high) ⌝ }
     {
         if (1300 < low) & (1300 < high) {
-            return PriceRange {
+            return PricePair {
                 low: stepped(low),
                 high: stepped(high),
             };
         }
         let table = LEGAL_PRICES;
-        PriceRange {
+        PricePair {
             low: tabled(&table, low),
             high: tabled(&table, high),
         }

@@ -1,8 +1,8 @@
 -- The laws that the proofs of this crate cite: what bounds the numbers of a sound security's base, and each exit's part of a definition.
 -- Assumes nothing.
-use mathlib.Core.Bool.{Bool, true, false}
-use mathlib.Core.Path.{_≡_, refl, ap, sym, _∙_}
-use Prim.Native.Nat.{ℕ, _+_, _*_, _/_, _^_, _≤_, _<_, min, max}
+use mathlib.Core.Bool.{true, false}
+use mathlib.Core.Path.{_≡_, refl, sym}
+use Prim.Native.Nat.{ℕ, _*_, _/_, _^_, _≤_, _<_, min, max}
 use native.Mathlib.Nat.{mul-le-mul-left, mul-le-mul-right}
 use native.Mathlib.Omega.{arith}
 use lib.Dec.{eqb}
@@ -33,10 +33,10 @@ pub base-bounded : (close : ℕ) (f : Figures) → soundFigures close f ≡ true
 base-bounded close f sound present last =
     let h = base-is close f sound present in
     record {
-      some = h .some;
-      shared = h .shared;
-      few = h .few;
-      most = omega (arith, h .most, mul-le-mul-right {m = close} {n = lastPrice} (baseOf close f .denominator) last);
+      numerator-some = h .numerator-some;
+      denominator-some = h .denominator-some;
+      denominator-most = h .denominator-most;
+      not-above-last = omega (arith, h .not-above-close, mul-le-mul-right {m = close} {n = lastPrice} (baseOf close f .denominator) last);
     }
 
 -- the base, by figures there or not and by which is the smaller
@@ -70,7 +70,7 @@ module _ (b : Base) (bounded : Bounded b) where
   hundred = 100 * b .denominator
 
   some-hundred : 0 < hundred
-  some-hundred = omega (arith, bounded .shared)
+  some-hundred = omega (arith, bounded .denominator-some)
 
   pub capped : lastPrice ≤ 130 * b .numerator / hundred → lastPrice ≡ ceilingOf b
   unfolding ceilingOf
@@ -85,14 +85,14 @@ module _ (b : Base) (bounded : Bounded b) where
       rw most
 
   pub floor-reached : 70 * b .numerator ≤ lastPrice * hundred
-  floor-reached = omega (arith, bounded .most)
+  floor-reached = omega (arith, bounded .not-above-last)
 
   pub floor-last : wholeUp (70 * b .numerator) hundred ≤ lastPrice
   floor-last = up-most (70 * b .numerator) hundred some-hundred lastPrice floor-reached
 
   pub floor-first : firstPrice ≤ wholeUp (70 * b .numerator) hundred
   floor-first =
-      let never : ¬ (wholeUp (70 * b .numerator) hundred ≤ 0) = λ none. omega (arith, bounded .some, up-reaches (70 * b .numerator) hundred some-hundred 0 none) in
+      let never : ¬ (wholeUp (70 * b .numerator) hundred ≤ 0) = λ none. omega (arith, bounded .numerator-some, up-reaches (70 * b .numerator) hundred some-hundred 0 none) in
       omega arith
 
   pub floor-found : legalUp (wholeUp (70 * b .numerator) hundred) ≡ floorOf b

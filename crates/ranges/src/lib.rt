@@ -135,5 +135,5 @@ pub fn outside_range(close: u32, f: Figures, price: u32) -> bool
 pub fn has_range(s: Security) -> bool
     ensures { λ r. ⌜ r ≡ hasRange s ⌝ }
 {
-    !(s.terms.free == 1) & !(s.prior.close == 0)
+    (s.terms.free != 1) & (s.prior.close != 0)
 }

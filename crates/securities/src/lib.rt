@@ -1,6 +1,6 @@
 // A security taken out of the words: the prices of one of its boards, what becomes of it, and when it is sound.
 ghost use mathlib.Core.Path.{_≡_};
-ghost use Rattle.definitions.specs.Gate.{afterFigures, afterPrices, afterSetup, noProjected, withPrices, withoutProjected};
+ghost use Rattle.definitions.specs.Gate.{afterFigures, afterPrices, afterSetup, noProjected, security, withPrices, withoutProjected};
 ghost use Rattle.definitions.specs.Rules.{pricesOn};
 ghost use Rattle.definitions.specs.Sound.{priceOrAbsent, settable, soundFigures, soundPrices, soundPrior, soundSecurity, soundTerms};
 use definitions::BoardPrices;
@@ -24,12 +24,15 @@ pub fn prices_on(s: Security, board: u32) -> Prices
     s.main
 }
 
-fn with_prices(main: Prices, foreign: Prices, s: Security) -> Security
-    ensures { λ r. ⌜ r ≡ withPrices main foreign s ⌝ }
+fn security(
+    terms: Terms,
+    prior: PriorPrices,
+    main: Prices,
+    foreign: Prices,
+    figures: Figures,
+) -> Security
+    ensures { λ r. ⌜ r ≡ security terms prior main foreign figures ⌝ }
 {
-    let terms = s.terms;
-    let prior = s.prior;
-    let figures = s.figures;
     Security {
         terms,
         prior,
@@ -37,46 +40,31 @@ fn with_prices(main: Prices, foreign: Prices, s: Security) -> Security
         foreign,
         figures,
     }
+}
+
+fn with_prices(main: Prices, foreign: Prices, s: Security) -> Security
+    ensures { λ r. ⌜ r ≡ withPrices main foreign s ⌝ }
+{
+    security(s.terms, s.prior, main, foreign, s.figures)
 }
 
 // "Kinds 3 and 4 replace the fields they name."; of kind 9's figures: "kind 3 clears it"
 pub fn after_setup(x: Setup, s: Security) -> Security
     ensures { λ r. ⌜ r ≡ afterSetup x s ⌝ }
 {
-    let terms = x.terms;
-    let prior = x.prior;
-    let main = s.main;
-    let foreign = s.foreign;
-    let figures = Figures {
+    let none = Figures {
         dividend: 0,
         subscription: 0,
         old_shares: 0,
         new_shares: 0,
     };
-    Security {
-        terms,
-        prior,
-        main,
-        foreign,
-        figures,
-    }
+    security(x.terms, x.prior, s.main, s.foreign, none)
 }
 
 pub fn after_figures(x: SecurityFigures, s: Security) -> Security
     ensures { λ r. ⌜ r ≡ afterFigures x s ⌝ }
 {
-    let terms = s.terms;
-    let prior = s.prior;
-    let main = s.main;
-    let foreign = s.foreign;
-    let figures = x.figures;
-    Security {
-        terms,
-        prior,
-        main,
-        foreign,
-        figures,
-    }
+    security(s.terms, s.prior, s.main, s.foreign, x.figures)
 }
 
 pub fn after_prices(x: BoardPrices, s: Security) -> Security
@@ -135,7 +123,7 @@ pub fn sound_prices(p: Prices) -> bool
         & price_or_absent(p.offer)
 }
 
-// "13 if old is 0 or the dividend is not below the prior close"
+// What kind 9 may set: 13 is for what this lets not pass. The shares of an event have two bytes, those of damaged words may have more.
 pub fn settable(close: u32, f: Figures) -> bool
     ensures { λ r. ⌜ r ≡ settable close f ⌝ }
 {

@@ -74,6 +74,22 @@ fn of_the_paper(program: &mut Program) {
     }
 }
 
+/// Behind the last security stands the first desk, whose words can read as a
+/// sound security: one order accepted (lot 1), in an open row (prior close 1).
+fn behind_the_last_security(program: &mut Program) {
+    let mut words = state(&[(0, [150_00, 0, 0, 0, 0])]);
+    let desk = security_start(1);
+    words[desk..][..11].copy_from_slice(&[1, 0, 0, 1, 1, 0, 0, 0, 0, 50_00, 100]);
+    nothing(program, "a desk that reads as a security", &words, 1);
+    let moved = [
+        &words[..security_start(0)],
+        &words[desk..][..17],
+        &words[desk..],
+    ]
+    .concat();
+    compare(program, "the same words as a security", &moved, 0..=1);
+}
+
 /// Every choice of one number with every choice of the others, those that are not
 /// sound too.
 fn every_edge(program: &mut Program) {
@@ -143,6 +159,7 @@ fn parts(program: &mut Program, name: &str, securities: &[(u32, [u32; 5])]) {
 
 /// No words, words that do not fit, damaged headers, and securities beyond all.
 fn no_range(program: &mut Program) {
+    behind_the_last_security(program);
     let sizes = [(1, 1), (2, 3), (256, 1_024)];
     for (customers, securities) in sizes {
         let mut words = fresh(customers, securities);

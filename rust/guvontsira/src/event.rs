@@ -77,8 +77,10 @@ pub enum Event {
         number: u32,
         price: u32,
     },
-    /// What the base of the day's range is worked out from once a right has gone.
-    /// They stand until a setup of the security.
+    /// What a right that has gone takes from a prior close that is not adjusted
+    /// for it. They change the day's range alone, and stand until a setup of the
+    /// security. With an adjusted prior close the same right would be taken off
+    /// twice.
     Figures {
         security: u16,
         /// Of one share, below the prior close.

@@ -105,8 +105,9 @@ pub fn run_list(words: &mut [u32], events: &[u8], lengths: &[usize], answers: &m
 }
 
 /// The day's floor in satang of a security on the main board; 0 where it has no
-/// range: it is free or has no prior close, or the gate would refuse an order
-/// for it with 1, 4 or 8.
+/// range: it is free or has no prior close, its number is not below the count of
+/// securities, its record is damaged, or the state does not fit. No desk is
+/// looked at.
 pub fn floor(words: &[u32], security: u32) -> u32 {
     // SAFETY: pointer and length are those of one borrowed slice.
     unsafe { guvontsira_floor(words.as_ptr(), words.len(), security) }

@@ -221,18 +221,18 @@ fn the_edges() {
             panic!("{row:?}");
         };
         let day = format!("{}\n{last}\n", before.replace("; ", "\n"));
-        for (figures, is_answered) in [(passes, false), (gets, true)] {
-            for figure in figures.split(", ") {
-                let answers = answers(&day.replace('_', figure));
+        for (values, is_answered) in [(passes, false), (gets, true)] {
+            for value in values.split(", ") {
+                let answers = answers(&day.replace('_', value));
                 let (found, earlier) = answers.split_last().unwrap();
                 let good = |answer: &Answer| matches!(answer, Answer::Ok | Answer::Accept);
-                assert!(earlier.iter().all(good), "{figure}: {row:?}: {answers:?}");
+                assert!(earlier.iter().all(good), "{value}: {row:?}: {answers:?}");
                 let expected = if is_answered {
                     &found.to_string() == answer
                 } else {
                     good(found)
                 };
-                assert!(expected, "{figure}: {row:?}: {found}");
+                assert!(expected, "{value}: {row:?}: {found}");
                 tried += 1;
             }
         }

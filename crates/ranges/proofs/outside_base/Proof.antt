@@ -10,14 +10,14 @@ use Rattle.ranges.proofs.outside_base.Tie as tie
 returns : tie.Need-returns
 returns c =
     let bounded = c .before .before .before .pre .0 in
-    sym (outside-is _ (bounded .shared) (floor-reached _ bounded) _ (c .before .before .before .pre .1))
+    sym (outside-is _ (bounded .denominator-some) (floor-reached _ bounded) _ (c .before .before .before .pre .1))
 
 pub outside-base-spec : {M : Type 1} → statement M
 outside-base-spec =
     tie.close
     (tie.spec
     (λ c. search needs)
-    (λ c. record { fits = hundred-fits _ _ (search needs) (c .before .pre .0 .few) })
+    (λ c. record { fits = hundred-fits _ _ (search needs) (c .before .pre .0 .denominator-most) })
     (λ c. search needs)
     (λ c. search needs)
     returns)

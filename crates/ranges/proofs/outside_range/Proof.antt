@@ -1,7 +1,6 @@
 -- `ranges::outside_range` meets its contract: below 1.00 baht by the prior close, else by the base.
 -- Assumes nothing.
-use mathlib.Core.Path.{_≡_, ap, subst, sym, _∙_}
-use Prim.Native.Nat.{ℕ}
+use mathlib.Core.Path.{ap, subst, sym, _∙_}
 use native.Mathlib.Omega.{arith}
 use borrow.Author.Needs.{needs}
 use Rattle.definitions.specs.declared.Base.{Base}

@@ -1,10 +1,10 @@
 -- `ranges::range_of` meets its contract: below 1.00 baht by the prior close, else by the base.
 -- Assumes nothing.
-use mathlib.Core.Path.{_≡_, ap, subst, sym, _∙_}
+use mathlib.Core.Path.{ap, subst, sym, _∙_}
 use native.Mathlib.Omega.{arith}
 use borrow.Author.Needs.{needs}
 use Rattle.definitions.specs.declared.Base.{Base}
-use Rattle.definitions.specs.Ranges.{baseOf, floorOf, ceilingOf, range}
+use Rattle.definitions.specs.Ranges.{floorOf, ceilingOf, range}
 use Rattle.ranges.specs.Bounds.{Bounded}
 use Rattle.ranges.proofs.Laws.{base-bounded, small-range, base-range}
 use Rattle.ranges.proofs.range_of.Statement.{statement}
