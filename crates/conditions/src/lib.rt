@@ -110,11 +110,11 @@ pub fn first_refusal(words: &[u32], e: Event) -> u32
             }
             if_met(8, !sound_desk_at(words, k))
         }
-        Event::Figures(x) => {
-            if h.securities <= x.security {
+        Event::Figures(f) => {
+            if h.securities <= f.security {
                 return 4;
             }
-            if_met(8, !sound_security_at(words, x.security))
+            if_met(8, !sound_security_at(words, f.security))
         }
     }
 }
