@@ -1,9 +1,8 @@
 // Paper 01, "The lent state": "the customer's three counters and 32 rows, taken out and put back as one record".
 ghost use mathlib.Core.Path.{_≡_};
 ghost use Prim.Native.Nat.{_+_, _≤_};
-ghost use lib.ListN.{length, drop};
-ghost use Rattle.definitions.specs.Codes.{deskRows};
-ghost use Rattle.definitions.specs.State.{rowSize, countersSize, deskSize, headerOf, deskPlace, rowOf, rowWords, rowsOf, deskOf, deskAt, putDesk};
+ghost use lib.ListN.{length};
+ghost use Rattle.definitions.specs.State.{rowSize, deskSize, headerOf, deskPlace, rowOf, rowWords, deskOf, deskAt, putDesk};
 use definitions::Desk;
 use definitions::Row;
 use definitions::codes::COUNTERS_SIZE;
@@ -31,33 +30,26 @@ pub fn row_of(words: &[u32]) -> Row
     }
 }
 
-// The rows stand behind the counters.
-fn rows_of(words: &[u32]) -> [Row; DESK_ROWS]
-    requires { ⌜ length (now words) ≡ deskSize ⌝ }
-    ensures { λ r. ⌜ r ≡ rowsOf deskRows (drop countersSize (now (words .entry))) ⌝ }
-{
-    let free = free_row();
-    let mut rows = [free; DESK_ROWS];
-    let mut i = 0;
-    while i < DESK_ROWS {
-        let at = COUNTERS_SIZE + ROW_SIZE * i;
-        rows[i] = row_of(&words[at..at + ROW_SIZE]);
-        i += 1;
-    }
-    rows
-}
-
+// The rows are put where they stay: an array of them beside the desk would be a second copy of it.
 fn desk_of(words: &[u32]) -> Desk
     requires { ⌜ length (now words) ≡ deskSize ⌝ }
     ensures { λ r. ⌜ r ≡ deskOf (now (words .entry)) ⌝ }
 {
-    let rows = rows_of(words);
-    Desk {
+    let free = free_row();
+    let rows = [free; DESK_ROWS];
+    let mut d = Desk {
         accepted: words[0],
         warned: words[1],
         rejected: words[2],
         rows,
+    };
+    let mut i = 0;
+    while i < DESK_ROWS {
+        let at = COUNTERS_SIZE + ROW_SIZE * i;
+        d.rows[i] = row_of(&words[at..at + ROW_SIZE]);
+        i += 1;
     }
+    d
 }
 
 pub fn desk_at(words: &[u32], k: u32) -> Desk
