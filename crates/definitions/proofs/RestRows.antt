@@ -2,7 +2,7 @@
 -- else; W compares with no row of type 3.
 -- Assumes nothing.
 use mathlib.Core.Bool.{Bool, true, false, cond, _&&_, not, and-false, or-false}
-use mathlib.Core.List.{List, [], _∷_, map}
+use mathlib.Core.List.{List, [], _∷_, map, map-id}
 use mathlib.Core.Path.{_≡_, refl, ap, ap₂, sym, subst, _∙_}
 use Prim.Native.Nat.{ℕ, _-_, _<_}
 use native.Mathlib.Nat.{suc-sub-suc}
@@ -40,7 +40,7 @@ use Rattle.definitions.proofs.Counters.{counterIn, counter-changed}
 use Rattle.definitions.proofs.SessionChange.{keep-free}
 
 -- free rows are closed up
-closed-free : (n : ℕ) → closeUp (replicate n freeRow) ≡ replicate n freeRow
+pub closed-free : (n : ℕ) → closeUp (replicate n freeRow) ≡ replicate n freeRow
 unfolding closeUp
 closed-free n =
     let none : length (replicate n freeRow) - count marked (replicate n freeRow) ≡ n = omega (arith, length-replicate n freeRow, count-replicate marked n freeRow refl) in
@@ -74,6 +74,10 @@ module _ (S clock : ℕ) (f : Row → Row) (free : f freeRow ≡ freeRow) (marks
   in-place d e =
       let sound = desk-true S clock d e in
       ap (λ (rows : List Row). withRows rows d) (closed-same (d .rows) (sound .each) (sound .first))
+
+-- the rows of a sound desk are closed up
+pub closed-up : (S clock : ℕ) (rows : List Row) → all (soundRow S clock) rows ≡ true → markedFirst rows ≡ true → closeUp rows ≡ rows
+closed-up S clock rows sound first = subst (λ (xs : List Row). closeUp xs ≡ xs) (map-id rows) (closed-same S clock (λ r. r) refl (λ r m. m) rows sound first)
 
 pub rest-in-place : (S clock number price : ℕ) (d : Desk) → soundDesk S clock d ≡ true
     → changed (restRow number price) d ≡ withRows (map (restRow number price) (d .rows)) d

@@ -51,14 +51,13 @@ pub fn open_or_in_minute(clock: u32, r: Row) -> bool
     (r.mark == OPEN_MARK) | minute
 }
 
-// The number is asked first here and below: in a loop over a desk's rows it is what most of them fail.
 pub fn holds_number(clock: u32, number: u32, r: Row) -> bool
     ensures { λ t. ⌜ t ≡ holdsNumber clock number r ⌝ }
 {
     (r.number == number) && open_or_in_minute(clock, r)
 }
 
-fn open_with(number: u32, r: Row) -> bool
+pub fn open_with(number: u32, r: Row) -> bool
     ensures { λ t. ⌜ t ≡ openWith number r ⌝ }
 {
     (r.number == number) && (r.mark == OPEN_MARK)

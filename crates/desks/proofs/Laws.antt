@@ -6,17 +6,16 @@ use mathlib.Core.Path.{_≡_, refl, ap, sym, _∙_}
 use Prim.Native.Nat.{ℕ, suc, _+_, _-_, _≤_, _<_}
 use native.Mathlib.Omega.{arith}
 use lib.Dec.{eqb, eqb·suc-suc}
-use lib.ListN.{length, getD, take, drop, set, replicate, length-map, length-append, length-replicate, drop-of-length-le}
-use lib.Seq.{take-all, length-take-le, set-at, set-out, append-snoc}
+use lib.ListN.{length, getD, take, set, replicate, length-map, length-append, length-replicate}
+use lib.Seq.{take-all, set-at, set-out, append-snoc}
 use borrow.Author.Tests.{eq-eqb, ne-eqb}
 use Rattle.definitions.specs.declared.Row.{Row}
 use Rattle.definitions.specs.declared.Desk.{Desk}
-use Rattle.definitions.specs.declared.Order.{Order}
 use Rattle.definitions.specs.Codes.{deskRows, freeMark}
 use Rattle.definitions.specs.Lists.{any, keep, count}
 use Rattle.definitions.specs.Sound.{marked}
-use Rattle.definitions.specs.Desks.{freeRow, closeUp, edited, withRows, changed, addedLast, expiredRow, rowOfOrder, added}
-use Rattle.definitions.proofs.Lists.{take-next, drop-next}
+use Rattle.definitions.specs.Desks.{freeRow, closeUp, edited, withRows, changed, addedLast}
+use Rattle.definitions.proofs.Lists.{take-next}
 use Rattle.definitions.proofs.Rows.{all-kept, length-keep, count-le, count-all, count-append, count-replicate}
 
 module _ {A : Type 0} (p : A → Bool) where
@@ -129,40 +128,12 @@ module _ {f : Row → Row} {d : Desk} where
         let size : length (closed .rows) ≤ n = rw (rows, length-append, length-replicate) (omega (arith, c .put)) in
         ap (λ rows. withRows rows closed) (sym (set-out (closed .rows) n r size))
 
--- an order added last stands at place n, and nowhere on a full desk
-module _ (clock : ℕ) (o : Order) {d closed : Desk} {n i : ℕ} (c : Closing (expiredRow clock) d closed n i) (h : deskRows ≤ i) {r : Row} (e : r ≡ rowOfOrder o) where
-  pub closing-added : withRows (set (closed .rows) n r) closed ≡ added clock o d
-  unfolding added
+-- a row added last stands at place n, and nowhere on a full desk
+module _ {f : Row → Row} {d closed : Desk} {n i : ℕ} (c : Closing f d closed n i) (h : deskRows ≤ i) (r : Row) where
+  pub closing-added : withRows (set (closed .rows) n r) closed ≡ withRows (addedLast r (edited f (d .rows))) d
   closing-added =
       ap (λ (x : Desk). withRows (set (x .rows) n r) x) (closed-rows c h)
-      ∙ ap (λ k. withRows (set (edited (expiredRow clock) (d .rows)) k r) d) (sym (place c h))
-      ∙ ap (λ x. withRows (addedLast x (edited (expiredRow clock) (d .rows))) d) e
+      ∙ ap (λ k. withRows (set (edited f (d .rows)) k r) d) (sym (place c h))
 
-  pub closing-full : deskRows ≤ n → closed ≡ added clock o d
+  pub closing-full : deskRows ≤ n → closed ≡ withRows (addedLast r (edited f (d .rows))) d
   closing-full full = stays c full r ∙ closing-added
-
--- A loop over the rows of d that changes each by f where it stands: i are passed.
-pub record InPlace (f : Row → Row) (d after : Desk) (i : ℕ) : Type 0 where
-  pub whole : length (d .rows) ≡ deskRows
-  pub desk : after ≡ withRows (map f (take i (d .rows)) ++ drop i (d .rows)) d
-
-module _ {f : Row → Row} {d : Desk} where
-  pub in-place-start : length (d .rows) ≡ deskRows → InPlace f d d 0
-  in-place-start whole = record { whole = whole; desk = refl }
-
-  module _ {after : Desk} {i : ℕ} (c : InPlace f d after i) where
-    pub in-place-next : i < deskRows → (z : Row) {r : Row} → r ≡ f (getD (d .rows) i z) → InPlace f d (withRows (set (after .rows) i r) after) (i + 1)
-    in-place-next h z {r} e =
-        let within : i < length (d .rows) = omega (arith, c .whole) in
-        let front = map f (take i (d .rows)) in
-        let rest = drop (i + 1) (d .rows) in
-        let sized : length front ≡ i = length-map (take i (d .rows)) f ∙ length-take-le i (d .rows) (omega arith) in
-        let before : after .rows ≡ front ++ (getD (d .rows) i z ∷ rest) = ap (λ (x : Desk). x .rows) (c .desk) ∙ ap (λ l. front ++ l) (drop-next (d .rows) i z within) in
-        let passed : map f (take (i + 1) (d .rows)) ≡ front ++ (r ∷ []) = rw (take-next (d .rows) i z within, map-append, e) in
-        let written : set (after .rows) i r ≡ map f (take (i + 1) (d .rows)) ++ rest = rw (before, passed, append-snoc front r rest) (set-at front (getD (d .rows) i z) rest r i sized) in
-        record { whole = c .whole; desk = ap (λ (x : Desk). withRows (set (after .rows) i r) x) (c .desk) ∙ ap (λ rows. withRows rows d) written }
-
-    pub in-place-end : deskRows ≤ i → after ≡ withRows (map f (d .rows)) d
-    in-place-end h =
-        let past : length (d .rows) ≤ i = omega (arith, c .whole) in
-        c .desk ∙ rw (take-all i (d .rows) past, drop-of-length-le (d .rows) past, append-nil)

@@ -11,10 +11,11 @@ pub fn handle(words: &mut [u32], k: u32, x: Cancel) -> Answer
     ensures { λ r. ⌜ (r, now (words .exit)) ≡ resultOf (now (words .entry)) (laterOutcome (now (words .entry)) (event.Cancel k x)) ⌝ }
 {
     let h = state::header_of(words);
-    let d = state_records::desk_at(words, k);
-    if !desks::number_open(x.number, d) {
+    let found = state_records::row_with(words, k, x.number);
+    if !desk_rows::open_with(x.number, found.row) {
         return Answer::Refused(10);
     }
-    state_records::put_desk(words, k, desks::cancelled(x.number, h.clock, d));
+    let left = desk_rows::cancelled_row(x.number, h.clock, found.row);
+    row_change::change_row(words, k, found.place, left);
     Answer::Ok
 }

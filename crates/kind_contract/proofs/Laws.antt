@@ -2,19 +2,22 @@
 -- Assumes nothing.
 use mathlib.Core.Bool.{Bool, true, false, cond, not}
 use mathlib.Core.List.{List, [], _∷_, _++_, append-assoc}
-use mathlib.Core.Path.{_≡_, refl, ap, sym, _∙_}
+use mathlib.Core.Path.{_≡_, refl, ap, sym, subst, _∙_}
 use Prim.Native.Nat.{ℕ, _≤_, _+_}
 use lib.Dec.{eqb}
-use borrow.Author.Tests.{leb-false}
+use borrow.Author.Tests.{leb-false, not-false}
 use Rattle.definitions.specs.declared.Event.{Event}
 use Rattle.definitions.specs.declared.Answer.{Answer}
 use Rattle.definitions.specs.declared.Answer.the-variants as answer
 use Rattle.definitions.specs.Lists.{firstMet}
-use Rattle.definitions.specs.State.{headerOf, headerSize, securitySize, deskSize, securityPlace, deskPlace}
-use Rattle.definitions.specs.Events.{one, customerNamed, securityNamed}
+use Rattle.definitions.specs.State.{headerOf, headerSize, securitySize, deskSize, securityPlace, deskPlace, deskAt}
+use Rattle.definitions.specs.Events.{Named, one, customerNamed, securityNamed}
 use Rattle.definitions.specs.Refusals.{beyond, badName, earlyConditions, laterConditions}
-use Rattle.definitions.specs.Gate.{refused, resultOf, recordsSound, viewOf, perform, refusedOr}
-use Rattle.definitions.proofs.Tests.{or-parts}
+use Rattle.definitions.specs.Gate.{refused, resultOf, soundSecurityAt, soundDeskAt, soundNamed, recordsSound, viewOf, perform, refusedOr}
+use Rattle.definitions.specs.Desks.{closeUp}
+use Rattle.definitions.proofs.Tests.{and-parts, or-parts}
+use Rattle.definitions.proofs.SoundDesk.{SoundRows, desk-true}
+use Rattle.definitions.proofs.RestRows.{closed-up}
 use Rattle.definitions.proofs.Table.{Numbered, met, unmet, first-append, numbered-first}
 use Rattle.definitions.proofs.Passed.{table, numbered-table}
 use Rattle.kind_contract.specs.First.{eventOutcome, firstRefusal, Ready, laterRefusal, laterOutcome}
@@ -80,3 +83,14 @@ module _ (w : List ℕ) (e : Event) where
 
     pub desk-fits : (k : ℕ) → customerNamed e ≡ one k → deskPlace (headerOf w .securities) k + deskSize ≤ length w
     desk-fits k own = fits-desk w (ready .fits) k (leb-false (headerOf w .customers) k (rw own at (parts .0)))
+
+  -- condition 8 of an event that names a customer
+  module _ (read : not (recordsSound w e) ≡ false) (k : ℕ) (own : customerNamed e ≡ one k) where
+    pub desk-sound : SoundRows (headerOf w .securities) (headerOf w .clock) (deskAt w k .rows)
+    desk-sound =
+        let h = headerOf w in
+        let sound = and-parts (soundNamed (h .securities) (soundSecurityAt w) (securityNamed e)) (soundNamed (h .customers) (soundDeskAt w) (customerNamed e)) (not-false (recordsSound w e) read) .1 in
+        desk-true (h .securities) (h .clock) (deskAt w k) (subst (λ (x : Named). soundNamed (h .customers) (soundDeskAt w) x ≡ true) own sound)
+
+    pub desk-closed : closeUp (deskAt w k .rows) ≡ deskAt w k .rows
+    desk-closed = closed-up (headerOf w .securities) (headerOf w .clock) (deskAt w k .rows) (desk-sound .each) (desk-sound .first)

@@ -10,16 +10,17 @@ pub fn handle(words: &mut [u32], k: u32, x: Match) -> Answer
     requires { ⌜ Ready (now words) (event.Match k x) ⌝ }
     ensures { λ r. ⌜ (r, now (words .exit)) ≡ resultOf (now (words .entry)) (laterOutcome (now (words .entry)) (event.Match k x)) ⌝ }
 {
-    let d = state_records::desk_at(words, k);
-    if !desks::number_open(x.number, d) {
+    let found = state_records::row_with(words, k, x.number);
+    if !desk_rows::open_with(x.number, found.row) {
         return Answer::Refused(10);
     }
     if x.volume == 0 {
         return Answer::Refused(11);
     }
-    if desks::volume_short(x.number, x.volume, d) {
+    if found.row.volume < x.volume {
         return Answer::Refused(11);
     }
-    state_records::put_desk(words, k, desks::matched(x.number, x.volume, d));
+    let left = desk_rows::matched_row(x.number, x.volume, found.row);
+    row_change::change_row(words, k, found.place, left);
     Answer::Ok
 }

@@ -6,6 +6,7 @@ ghost use Rattle.kind_contract.specs.First.{Ready, laterOutcome};
 use definitions::Answer;
 use definitions::MarketView;
 use definitions::Order;
+use definitions::codes::DESK_ROWS;
 
 pub fn handle(words: &mut [u32], k: u32, o: Order) -> Answer
     requires { ⌜ Ready (now words) (event.Order k o) ⌝ }
@@ -18,22 +19,21 @@ pub fn handle(words: &mut [u32], k: u32, o: Order) -> Answer
         clock: h.clock,
         security,
     };
-    let d = state_records::desk_at(words, k);
-    if desks::number_held(m.clock, o.number, d) {
+    let found = state_records::row_with(words, k, o.number);
+    if desk_rows::holds_number(m.clock, o.number, found.row) {
         return Answer::Refused(9);
     }
+    let d = state_records::desk_at(words, k);
     let v = rules::verdict(m, d, o);
     if !desk_counters::takes_row(v) {
         state_records::put_desk(words, k, desk_counters::counted(v, d));
         return Answer::Verdict(v);
     }
-    if desks::full(m.clock, d) {
+    // A desk with a free row is not full. The search ends past the last row where there is none.
+    if found.place == DESK_ROWS && desks::full(m.clock, d) {
         return Answer::Refused(12);
     }
-    state_records::put_desk(
-        words,
-        k,
-        desks::added(m.clock, o, desk_counters::counted(v, d)),
-    );
+    let after = desks::added(m.clock, o, d);
+    state_records::put_desk(words, k, desk_counters::counted(v, after));
     Answer::Verdict(v)
 }

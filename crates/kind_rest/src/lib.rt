@@ -10,10 +10,11 @@ pub fn handle(words: &mut [u32], k: u32, x: Rest) -> Answer
     requires { ⌜ Ready (now words) (event.Rest k x) ⌝ }
     ensures { λ r. ⌜ (r, now (words .exit)) ≡ resultOf (now (words .entry)) (laterOutcome (now (words .entry)) (event.Rest k x)) ⌝ }
 {
-    let d = state_records::desk_at(words, k);
-    if !desks::mp_open(x.number, d) {
+    let found = state_records::row_with(words, k, x.number);
+    if !desk_rows::open_mp_with(x.number, found.row) {
         return Answer::Refused(10);
     }
-    state_records::put_desk(words, k, desks::rest_limited(x.number, x.price, d));
+    let left = desk_rows::rest_row(x.number, x.price, found.row);
+    row_change::change_row(words, k, found.place, left);
     Answer::Ok
 }

@@ -1,0 +1,28 @@
+-- `row_change::change_row` meets its contract: the desk that is put back is the one that was taken out, with one row changed.
+-- Assumes nothing.
+use mathlib.Core.Path.{_≡_, ap, sym, subst, _∙_}
+use borrow.Author.Needs.{needs}
+use Rattle.definitions.specs.declared.Desk.{Desk}
+use Rattle.definitions.specs.State.{putDesk}
+use Rattle.definitions.specs.Desks.{closeUp, withRows}
+use Rattle.desks.specs.Place.{changedAt}
+use Rattle.row_change.proofs.change_row.Statement.{statement}
+use Rattle.row_change.proofs.change_row.Tie as tie
+
+returns : tie.Need-returns
+returns c =
+    let s = c .before .before .before .before .before .before .before .before in
+    let taken = c .before .before .before .before .before .desk-at in
+    c .before .before .put-desk .ensures
+    ∙ ap (putDesk (s .args .words .now) (s .args .k))
+    (c .before .before .before .changed-at .ensures ∙ ap (λ (d : Desk). withRows (changedAt (s .args .place) (s .args .row) (d .rows)) d) (taken .ensures))
+
+pub change-row-spec : {M : Type 1} → statement M
+change-row-spec =
+    tie.close
+    (tie.spec
+    (λ c κs. c .before .before .pre .0)
+    (λ c κs. (c .before .before .before .before .pre .1, subst (λ (d : Desk). closeUp (d .rows) ≡ d .rows) (sym (c .before .desk-at .ensures)) (c .before .before .before .before .pre .2)))
+    (λ c κs. c .before .before .before .before .before .pre .0)
+    (λ c. search needs)
+    returns)
