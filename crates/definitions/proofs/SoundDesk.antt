@@ -69,7 +69,7 @@ true-desk S clock d h =
 
 module _ (S clock : ℕ) where
   -- sound marked rows whose numbers differ, and then free rows
-  sound-closed : (front : List Row) (n : ℕ) → all (soundRow S clock) front ≡ true → all marked front ≡ true → numbersDiffer front ≡ true
+  pub sound-closed : (front : List Row) (n : ℕ) → all (soundRow S clock) front ≡ true → all marked front ≡ true → numbersDiffer front ≡ true
       → SoundRows S clock (front ++ replicate n freeRow)
   sound-closed front n sound mark differ =
       record {

@@ -50,7 +50,7 @@ unfolding all rowWords
 zero-mark r e = and-parts (eqb (r .mark) freeMark) _ e .0
 
 module _ (S clock : ℕ) where
-  marked-true : (r : Row) → soundMarked S clock r ≡ true → SoundMarked S clock r
+  pub marked-true : (r : Row) → soundMarked S clock r ≡ true → SoundMarked S clock r
   marked-true r e =
       let p = joined-parts (openOrCancelled clock r) (laterTests S r) e in
       record {
@@ -133,11 +133,11 @@ zeros (x ∷ xs) e =
     let parts = and-parts (eqb x 0) (all (λ (n : ℕ). eqb n 0) xs) e in
     ap₂ (λ (y : ℕ) (ys : List ℕ). y ∷ ys) (eqb-true x 0 (parts .0)) (zeros xs (parts .1))
 
-zero-free : (r : Row) → allZero r ≡ true → r ≡ freeRow
+pub zero-free : (r : Row) → allZero r ≡ true → r ≡ freeRow
 unfolding rowWords rowOf
 zero-free r e = ap rowOf (zeros (rowWords r) e)
 
-state-marked : (clock : ℕ) (r : Row) → openOrCancelled clock r ≡ true → marked r ≡ true
+pub state-marked : (clock : ℕ) (r : Row) → openOrCancelled clock r ≡ true → marked r ≡ true
 state-marked clock r e =
     ⊎-elim (λ o. rw (eqb-true (r .mark) openMark (o .mark))) (λ c. rw (eqb-true (r .mark) cancelledMark (c .mark))) (state-cases clock r e)
 

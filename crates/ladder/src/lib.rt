@@ -201,6 +201,10 @@ fn stepped(position: u32) -> u32
 fn on_step(price: u32) -> bool
     ensures { λ r. ⌜ r ≡ onStep (bandOfPrice price) price ⌝ }
 {
+    // The band of the benchmark's prices comes first, so that those above it are not asked for them.
+    if (2_500 <= price) & (price < 10_000) {
+        return (price - 2_500) % 25 == 0;
+    }
     if 40_000 <= price {
         return (price - 40_000) % 200 == 0;
     }
@@ -209,9 +213,6 @@ fn on_step(price: u32) -> bool
     }
     if 10_000 <= price {
         return (price - 10_000) % 50 == 0;
-    }
-    if 2_500 <= price {
-        return (price - 2_500) % 25 == 0;
     }
     if 1_000 <= price {
         return (price - 1_000) % 10 == 0;

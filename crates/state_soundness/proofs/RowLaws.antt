@@ -1,174 +1,162 @@
--- Laws of a desk's rows as they are tested: the marked rows that stand first one by one, the rest as words.
+-- Laws of a desk's rows as they are tested: those that lead one by one, the rest as words.
 -- Assumes nothing.
-use mathlib.Core.Bool.{Bool, true, false, cond, _&&_, _||_, not, and-assoc, or-false, and-true, and-false, and-eq-true-iff}
-use mathlib.Core.List.{List, [], _∷_, _++_, map, map-append}
-use mathlib.Core.Path.{_≡_, refl, ap, sym, _∙_}
+use mathlib.Core.Bool.{Bool, true, false, cond, _&&_, _||_, not, or-false, and-false, and-assoc}
+use mathlib.Core.List.{List, [], _∷_, _++_}
+use mathlib.Core.Logic.{⊎-elim}
+use mathlib.Core.Path.{_≡_, refl, ap, ap₂, sym, _∙_}
 use Prim.Native.Nat.{ℕ, zero, suc, _+_, _-_, _*_, _≤_, _<_}
-use native.Mathlib.Omega.{arith}
+use native.Mathlib.Nat.{zero-add, suc-add}
 use native.Mathlib.Numerals.{add-one}
-use lib.Dec.{eqb}
-use lib.ListN.{length, getD, take, drop, set, drop-of-length-le, length-drop, length-set}
-use lib.Seq.{take-suc-set, take-all, drop-drop, getD-take, getD-drop}
-use borrow.Author.Tests.{ne-eqb, eq-eqb, eqb-true, eqb-false}
+use native.Mathlib.Omega.{arith}
+use lib.Bits.{bitOr, bitAnd, or-add-and, and-le-l, and-le-r}
+use lib.Dec.{ltb, eqb}
+use lib.ListN.{length, getD, take, drop, replicate, length-drop}
+use lib.Seq.{take-all, drop-drop, getD-take, getD-drop}
+use borrow.Author.Tests.{lt-ltb, le-ltb, ltb-true, ne-eqb, eq-eqb, eqb-true, not-true, not-false}
 use Rattle.definitions.specs.declared.Row.{Row}
 use Rattle.definitions.specs.Codes.{deskRows}
+use Rattle.definitions.specs.Desks.{freeRow}
 use Rattle.definitions.specs.Lists.{any, all, part}
 use Rattle.definitions.specs.State.{rowSize, countersSize, deskSize, headerOf, rowOf, rowWords, rowsOf, rowsWords, deskPlace, deskOf, deskAt}
 use Rattle.definitions.specs.Gate.{soundDeskAt}
 use Rattle.definitions.specs.Sound.{marked, numbered, allZero, soundMarked, soundRow, markedFirst, numbersDiffer, soundDesk}
 use Rattle.definitions.proofs.Words.{drop-take}
-use Rattle.definitions.proofs.Records.{length-rows, rows-write}
-use Rattle.definitions.proofs.Tests.{and-parts}
-use Rattle.definitions.proofs.Rows.{any-append}
-use Rattle.state_soundness.specs.Tested.{equals, leading, apart, rowNumber, soundLeading, soundRows}
-use Rattle.state_records.proofs.Laws.{rows-suc}
+use Rattle.definitions.proofs.Records.{rows-write}
+use Rattle.definitions.proofs.Tests.{never, and-parts, and-whole, and-second, or-first, or-second, or-parts, or-cases, EachTrue, joined-parts}
+use Rattle.definitions.proofs.Rows.{all-append, differ-last, all-weaken, any-append}
+use Rattle.definitions.proofs.SoundRow.{marked-true, zero-free, state-marked, unmarked-free}
+use Rattle.definitions.proofs.SoundDesk.{sound-closed}
+use Rattle.state_soundness.specs.Tested.{equals, hasNumber, follows, Leading, soundRows}
+use Rattle.state_records.proofs.Laws.{part-is, rows-suc}
 
--- all and any of lists put together
+-- two tests of which each follows from the other
+same : (a b : Bool) → (a ≡ true → b ≡ true) → (b ≡ true → a ≡ true) → a ≡ b
+same true b f g = sym (f refl)
+same false true f g = g refl
+same false false f g = refl
+
+-- all of lists put together
 all-join : {A : Type 0} (p : A → Bool) (xs ys : List A) → all p (xs ++ ys) ≡ (all p xs && all p ys)
 unfolding all
 all-join p [] ys = refl
 all-join p (x ∷ xs) ys = rw (all-join p xs ys) (sym (and-assoc (p x) (all p xs) (all p ys)))
 
--- the rows of words: the first ones, and those after them
-rows-take : (i n : ℕ) (w : List ℕ) → i ≤ n → take i (rowsOf n w) ≡ rowsOf i w
-unfolding rowsOf
-rows-take zero n w h = refl
-rows-take (suc i) zero w h = absurd (omega arith)
-rows-take (suc i) (suc n) w h = rw (rows-take i n (drop rowSize w) (omega arith))
+-- none that passes a test, where none passes one that follows from it
+any-less : {A : Type 0} (p q : A → Bool) → ((x : A) → p x ≡ true → q x ≡ true) → (xs : List A) → any q xs ≡ false → any p xs ≡ false
+unfolding any
+any-less p q less [] none = refl
+any-less p q less (x ∷ xs) none =
+    let parts = or-parts (q x) (any q xs) none in
+    go (p x) refl (parts .0) (any-less p q less xs (parts .1))
+  where
+    go : (t : Bool) → p x ≡ t → q x ≡ false → any p xs ≡ false → (t || any p xs) ≡ false
+    go true e not-q rest = never (less x e) not-q
+    go false e not-q rest = rest
 
-rows-drop : (i n : ℕ) (w : List ℕ) → i ≤ n → drop i (rowsOf n w) ≡ rowsOf (n - i) (drop (rowSize * i) w)
-unfolding rowsOf
-rows-drop zero n w h = let whole : n ≡ n - 0 = omega arith in ap (λ (k : ℕ). rowsOf k w) whole
-rows-drop (suc i) zero w h = absurd (omega arith)
-rows-drop (suc i) (suc n) w h =
-    let left : n - i ≡ suc n - suc i = omega arith in
-    let further : rowSize + rowSize * i ≡ rowSize * suc i = omega arith in
-    rows-drop i n (drop rowSize w) (omega arith)
-    ∙ ap (rowsOf (n - i)) (drop-drop (rowSize * i) rowSize w ∙ ap (λ (k : ℕ). drop k w) further)
-    ∙ ap (λ (k : ℕ). rowsOf k (drop (rowSize * suc i) w)) left
+-- words OR-ed together are 0 if each is
+pub or-zero : (a b : ℕ) → eqb (bitOr a b) 0 ≡ (eqb a 0 && eqb b 0)
+or-zero a b = same (eqb (bitOr a b) 0) (eqb a 0 && eqb b 0) apart together
+  where
+    apart : eqb (bitOr a b) 0 ≡ true → (eqb a 0 && eqb b 0) ≡ true
+    apart e =
+        let none : bitOr a b ≡ 0 = eqb-true (bitOr a b) 0 e in
+        and-whole (eq-eqb a 0 (omega (arith, none, or-add-and a b, and-le-r a b))) (eq-eqb b 0 (omega (arith, none, or-add-and a b, and-le-l a b)))
 
-row-mark : (i : ℕ) (w : List ℕ) → rowOf (take rowSize (drop (rowSize * i) w)) .mark ≡ getD w (rowSize * i) 0
+    together : (eqb a 0 && eqb b 0) ≡ true → eqb (bitOr a b) 0 ≡ true
+    together e =
+        let parts = and-parts (eqb a 0) (eqb b 0) e in
+        eq-eqb (bitOr a b) 0 (omega (arith, eqb-true a 0 (parts .0), eqb-true b 0 (parts .1), or-add-and a b))
+
+-- the rows of words: the first n, and the m after them
+rows-split : (n m : ℕ) (w : List ℕ) → rowsOf (n + m) w ≡ rowsOf n w ++ rowsOf m (drop (rowSize * n) w)
+unfolding rowsOf
+rows-split zero m w = rw zero-add
+rows-split (suc n) m w =
+    let further : rowSize + rowSize * n ≡ rowSize * suc n = omega arith in
+    rw (suc-add n m, rows-split n m (drop rowSize w), drop-drop (rowSize * n) rowSize w, further)
+
+row-number : (i : ℕ) (w : List ℕ) → rowOf (take rowSize (drop (rowSize * i) w)) .number ≡ getD w (rowSize * i + 1) 0
 unfolding rowOf
-row-mark i w =
-    let here : rowSize * i + 0 ≡ rowSize * i = omega arith in
-    getD-take rowSize (drop (rowSize * i) w) 0 0 (omega arith) ∙ getD-drop (rowSize * i) w 0 0 ∙ ap (λ (k : ℕ). getD w k 0) here
+row-number i w = getD-take rowSize (drop (rowSize * i) w) 1 0 (omega arith) ∙ getD-drop (rowSize * i) w 1 0
 
-rows-next : (i : ℕ) (w : List ℕ) → i < deskRows → drop i (rowsOf deskRows w) ≡ rowOf (take rowSize (drop (rowSize * i) w)) ∷ drop (i + 1) (rowsOf deskRows w)
-unfolding rowsOf
-rows-next i w h =
-    let left : deskRows - i ≡ suc (deskRows - (i + 1)) = omega arith in
-    let further : rowSize * i + rowSize ≡ rowSize * (i + 1) = omega arith in
-    rows-drop i deskRows w (omega arith)
-    ∙ ap (λ (k : ℕ). rowsOf k (drop (rowSize * i) w)) left
-    ∙ ap (λ (rs : List Row). rowOf (take rowSize (drop (rowSize * i) w)) ∷ rs)
-    (ap (rowsOf (deskRows - (i + 1))) (drop-drop rowSize (rowSize * i) w ∙ ap (λ (k : ℕ). drop k w) further) ∙ sym (rows-drop (i + 1) deskRows w (omega arith)))
-
--- a loop that counts the rows before the first free one
-pub record Led (w : List ℕ) (i : ℕ) : Type 0 where
-  pub so-far : i + leading (drop i (rowsOf deskRows w)) ≡ leading (rowsOf deskRows w)
-  pub to : i ≤ deskRows
-
-pub led-none : {w : List ℕ} → Led w 0
-led-none = record { so-far = omega arith; to = omega arith }
-
-pub led-next : {w : List ℕ} {i : ℕ} → i < deskRows → (getD w (rowSize * i) 0 ≡ 0 → ⊥) → Led w i → Led w (i + 1)
-unfolding leading
-led-next {w} {i} h taken inv =
-    let mark : eqb (rowOf (take rowSize (drop (rowSize * i) w)) .mark) 0 ≡ false = ne-eqb _ _ (λ e. taken (sym (row-mark i w) ∙ e)) in
-    let here : leading (drop i (rowsOf deskRows w)) ≡ suc (leading (drop (i + 1) (rowsOf deskRows w))) = ap leading (rows-next i w h) ∙ rw mark in
-    record { so-far = omega (arith, here, inv .so-far); to = omega arith }
-
-pub led-free : {w : List ℕ} {i : ℕ} → i < deskRows → getD w (rowSize * i) 0 ≡ 0 → Led w i → i ≡ leading (rowsOf deskRows w)
-unfolding leading
-led-free {w} {i} h free inv =
-    let mark : eqb (rowOf (take rowSize (drop (rowSize * i) w)) .mark) 0 ≡ true = eq-eqb _ _ (row-mark i w ∙ free) in
-    let here : leading (drop i (rowsOf deskRows w)) ≡ 0 = ap leading (rows-next i w h) ∙ rw mark in
-    omega (arith, here, inv .so-far)
-
-pub led-end : {w : List ℕ} {i : ℕ} → deskRows ≤ i → Led w i → i ≡ leading (rowsOf deskRows w)
-unfolding leading
-led-end {w} {i} h inv =
-    let past : length (rowsOf deskRows w) ≤ i = omega (arith, length-rows deskRows w) in
-    let here : leading (drop i (rowsOf deskRows w)) ≡ 0 = ap leading (drop-of-length-le (rowsOf deskRows w) past) in
-    omega (arith, here, inv .so-far)
-
-leading-le : (rs : List Row) → leading rs ≤ length rs
-unfolding leading
-leading-le [] = omega arith
-leading-le (r ∷ rs) = go (marked r) (leading-le rs)
-  where
-    go : (t : Bool) → leading rs ≤ length rs → cond t (suc (leading rs)) 0 ≤ suc (length rs)
-    go true below = omega arith
-    go false below = omega arith
-
-pub leading-most : (n : ℕ) (w : List ℕ) → n ≡ leading (rowsOf deskRows w) → n ≤ deskRows
-leading-most n w e = omega (arith, e, leading-le (rowsOf deskRows w), length-rows deskRows w)
-
--- a number put after others
-apart-last : (xs : List ℕ) (k : ℕ) → apart (xs ++ (k ∷ [])) ≡ (apart xs && not (any (equals k) xs))
-unfolding apart any
-apart-last [] k = refl
-apart-last (x ∷ xs) k =
-    rw (any-append (equals x) xs (k ∷ []), apart-last xs k) (go (eqb x k) refl)
-  where
-    go : (e : Bool) → eqb x k ≡ e
-        → (not (any (equals x) xs || (eqb k x || false)) && (apart xs && not (any (equals k) xs)))
-        ≡ (not (any (equals x) xs) && apart xs && not (eqb x k || any (equals k) xs))
-    go true e =
-        let same : x ≡ k = eqb-true x k e in
-        rw (e, eq-eqb k x (sym same)) (alike (any (equals x) xs) (apart xs))
-      where
-        alike : (a d : Bool) → (not (a || true) && (d && not (any (equals k) xs))) ≡ (not a && d && false)
-        alike true d = refl
-        alike false d = sym (and-false d)
-    go false e =
-        let other : eqb k x ≡ false = ne-eqb k x (λ f. eqb-false x k e (sym f)) in
-        rw (e, other, or-false) (sym (and-assoc (not (any (equals x) xs)) (apart xs) (not (any (equals k) xs))))
-
--- a loop that tests the marked rows and notes their numbers
-pub record SoundSoFar (securities clock : ℕ) (w : List ℕ) (count : ℕ) (ok : Bool) (numbers : List ℕ) (i : ℕ) : Type 0 where
-  pub so-far : ok ≡ soundLeading securities clock (rowsOf i w)
-  pub noted : take i numbers ≡ map rowNumber (rowsOf i w)
+-- a loop that looks for a number among the first rows
+pub record Passed (w : List ℕ) (count number i : ℕ) : Type 0 where
+  pub none : any (hasNumber number) (rowsOf i w) ≡ false
   pub to : i ≤ count
-  pub long : length numbers ≡ deskRows
 
-pub sound-start : (securities clock count : ℕ) (w numbers : List ℕ) → length numbers ≡ deskRows → SoundSoFar securities clock w count true numbers 0
-unfolding soundLeading rowsOf all apart
-sound-start securities clock count w numbers long = record { so-far = refl; noted = refl; to = omega arith; long = long }
+pub passed-none : {w : List ℕ} {count number : ℕ} → Passed w count number 0
+unfolding rowsOf any
+passed-none = record { none = refl; to = omega arith }
 
-regroup : (a b c d : Bool) → (a && b && c && d) ≡ ((a && c) && (b && d))
-regroup true b c d = go b c d
-  where
-    go : (b c d : Bool) → (b && c && d) ≡ (c && (b && d))
-    go true true d = refl
-    go true false d = refl
-    go false true d = refl
-    go false false d = refl
-regroup false b c d = refl
-
-pub sound-next : {securities clock : ℕ} {w : List ℕ} {count : ℕ} {ok : Bool} {numbers : List ℕ} {i : ℕ} {r : Row} {twice sound : Bool} → i < count → count ≤ deskRows
-    → SoundSoFar securities clock w count ok numbers i → r ≡ rowOf (take (rowSize * i + rowSize - rowSize * i) (drop (rowSize * i) w))
-    → twice ≡ any (equals (r .number)) (take i numbers) → sound ≡ soundMarked securities clock r
-    → SoundSoFar securities clock w count (ok && sound && not twice) (set numbers i (r .number)) (i + 1)
-unfolding soundLeading all
-sound-next {securities} {clock} {w} {count} {ok} {numbers} {i} {r} {twice} {sound} h most inv e f g =
-    let place : i < length numbers = omega (arith, inv .long) in
-    let size : rowSize * i + rowSize - rowSize * i ≡ rowSize = omega arith in
-    let row : r ≡ rowOf (take rowSize (drop (rowSize * i) w)) = e ∙ ap (λ (n : ℕ). rowOf (take n (drop (rowSize * i) w))) size in
-    let more : rowsOf (i + 1) w ≡ rowsOf i w ++ (r ∷ []) = rw (add-one i, row) (rows-suc i w) in
-    let numbered : map rowNumber (rowsOf (i + 1) w) ≡ map rowNumber (rowsOf i w) ++ (r .number ∷ []) = ap (map rowNumber) more ∙ map-append rowNumber (rowsOf i w) (r ∷ []) in
+pub passed-next : {w : List ℕ} {count number i : ℕ} → i < count → (getD w (rowSize * i + 1) 0 ≡ number → ⊥) → Passed w count number i → Passed w count number (i + 1)
+unfolding any
+passed-next {w} {count} {number} {i} h other inv =
+    let differs : hasNumber number (rowOf (take rowSize (drop (rowSize * i) w))) ≡ false = ne-eqb _ _ (λ e. other (sym (row-number i w) ∙ e)) in
     record {
-      so-far =
-          rw (numbered, more, all-join (soundMarked securities clock) (rowsOf i w) (r ∷ []), apart-last (map rowNumber (rowsOf i w)) (r .number), inv .so-far, g, f, inv .noted, and-true)
-          (regroup (all (soundMarked securities clock) (rowsOf i w)) (apart (map rowNumber (rowsOf i w))) (soundMarked securities clock r) (not (any (equals (r .number)) (map rowNumber (rowsOf i w)))));
-      noted = rw (numbered, ← inv .noted, add-one i) (take-suc-set numbers i (r .number) place);
+      none = rw (add-one i, rows-suc i w, any-append (hasNumber number) (rowsOf i w) (rowOf (take rowSize (drop (rowSize * i) w)) ∷ []), inv .none, differs);
       to = omega arith;
-      long = length-set numbers i (r .number) ∙ inv .long;
     }
 
-pub sound-end : {securities clock : ℕ} {w : List ℕ} {count : ℕ} {ok : Bool} {numbers : List ℕ} {i : ℕ} → count ≤ i
-    → SoundSoFar securities clock w count ok numbers i → ok ≡ soundLeading securities clock (rowsOf count w)
-sound-end {securities} {clock} {w} {count} {i = i} h inv = let end : i ≡ count = omega (arith, inv .to) in rw end at (inv .so-far)
+pub passed-found : {w : List ℕ} {count number i : ℕ} → i < count → getD w (rowSize * i + 1) 0 ≡ number → Passed w count number i → true ≡ any (hasNumber number) (rowsOf count w)
+unfolding any rowsOf
+passed-found {w} {count} {number} {i} h this inv =
+    let whole : count ≡ i + suc (count - i - 1) = omega arith in
+    let rest : List ℕ = drop (rowSize * i) w in
+    let found : hasNumber number (rowOf (take rowSize rest)) ≡ true = eq-eqb _ _ (row-number i w ∙ this) in
+    sym (ap (λ (k : ℕ). any (hasNumber number) (rowsOf k w)) whole
+    ∙ ap (any (hasNumber number)) (rows-split i (suc (count - i - 1)) w)
+    ∙ any-append (hasNumber number) (rowsOf i w) (rowsOf (suc (count - i - 1)) rest)
+    ∙ rw (inv .none, found))
+
+pub passed-end : {w : List ℕ} {count number i : ℕ} → count ≤ i → Passed w count number i → false ≡ any (hasNumber number) (rowsOf count w)
+passed-end {count = count} {i = i} h inv = let end : i ≡ count = omega (arith, inv .to) in sym (rw end at (inv .none))
+
+-- the rows that lead, as a loop passes them: none has a number above the largest
+abbrev above : ℕ → Row → Bool
+above largest r = ltb largest (r .number)
+
+pub record Led (securities clock : ℕ) (w : List ℕ) (largest i : ℕ) : Type 0 where
+  pub to : i ≤ deskRows
+  pub sound : all (soundMarked securities clock) (rowsOf i w) ≡ true
+  pub differ : numbersDiffer (rowsOf i w) ≡ true
+  pub most : any (above largest) (rowsOf i w) ≡ false
+
+pub led-none : {securities clock : ℕ} {w : List ℕ} → Led securities clock w 0 0
+unfolding rowsOf all any numbersDiffer
+led-none = record { to = omega arith; sound = refl; differ = refl; most = refl }
+
+-- row i, as the code reads it
+abbrev rowRead : ℕ → List ℕ → Row
+rowRead i w = rowOf (take (rowSize * i + rowSize - rowSize * i) (drop (rowSize * i) w))
+
+row-is : {r : Row} (i : ℕ) (w : List ℕ) → r ≡ rowRead i w → r ≡ rowOf (part w (rowSize * i) rowSize)
+row-is i w e = e ∙ ap rowOf (part-is w (rowSize * i) rowSize refl)
+
+module _ {securities clock : ℕ} {w : List ℕ} {largest i : ℕ} (inv : Led securities clock w largest i) where
+  -- a number above the largest is none of theirs
+  pub led-new : (n : ℕ) → largest < n → any (hasNumber n) (rowsOf i w) ≡ false
+  led-new n larger =
+      any-less (hasNumber n) (above largest) (λ x e. lt-ltb largest (x .number) (omega (arith, larger, eqb-true (x .number) n e))) (rowsOf i w) (inv .most)
+
+  pub led-next : {r : Row} {more : ℕ} → i < deskRows → r ≡ rowRead i w → soundMarked securities clock r ≡ true
+      → any (hasNumber (r .number)) (rowsOf i w) ≡ false → largest ≤ more → r .number ≤ more → Led securities clock w more (i + 1)
+  unfolding all any part
+  led-next {r} {more} h e sound new grows within =
+      let rows : rowsOf (i + 1) w ≡ rowsOf i w ++ (r ∷ []) = rw (add-one i, row-is i w e) (rows-suc i w) in
+      record {
+        to = omega arith;
+        sound = rw rows (all-append (soundMarked securities clock) (rowsOf i w) (r ∷ []) (inv .sound) (and-whole sound refl));
+        differ = rw rows (differ-last (rowsOf i w) r (inv .differ) (any-less (numbered (r .number)) (hasNumber (r .number)) (λ x f. and-parts (marked x) (hasNumber (r .number) x) f .1) (rowsOf i w) new));
+        most =
+            rw (rows, any-append (above more) (rowsOf i w) (r ∷ []), le-ltb more (r .number) within, or-false)
+            (any-less (above more) (above largest) (λ x f. lt-ltb largest (x .number) (omega (arith, grows, ltb-true more (x .number) f))) (rowsOf i w) (inv .most));
+      }
+
+  pub led-stop : {r : Row} → r ≡ rowRead i w → follows securities clock (rowsOf i w) r ≡ false → Leading securities clock w i
+  led-stop e last = record { to = inv .to; sound = inv .sound; differ = inv .differ; next = λ _. rw (row-is i w e) at last }
+
+  pub led-end : deskRows ≤ i → Leading securities clock w i
+  led-end h = record { to = inv .to; sound = inv .sound; differ = inv .differ; next = λ below. absurd (omega (arith, h, below)) }
 
 -- rows that are all zero, as words
 zero-rows : (n : ℕ) (w : List ℕ) → length w ≡ rowSize * n → all (equals 0) w ≡ all allZero (rowsOf n w)
@@ -179,91 +167,100 @@ zero-rows n w h = ap (all (equals 0)) (sym (rows-write n w h)) ∙ go (rowsOf n 
     go [] = refl
     go (r ∷ rs) = all-join (equals 0) (rowWords r) (rowsWords rs) ∙ rw (go rs)
 
--- a free row has no number, and is sound if it is all zero
-zero-free : (r : Row) → allZero r ≡ true → eqb (r .mark) 0 ≡ true
-unfolding all rowWords
-zero-free r z = and-parts (eqb (r .mark) 0) _ z .0
+zeros-free : (rs : List Row) → all allZero rs ≡ true → rs ≡ replicate (length rs) freeRow
+unfolding all
+zeros-free [] z = refl
+zeros-free (r ∷ rs) z =
+    let parts = and-parts (allZero r) (all allZero rs) z in
+    ap₂ (λ (x : Row) (xs : List Row). x ∷ xs) (zero-free r (parts .0)) (zeros-free rs (parts .1))
 
-marked-nonzero : (r : Row) → eqb (r .mark) 0 ≡ false → allZero r ≡ false
-unfolding all rowWords
-marked-nonzero r e = rw e
+-- marked rows before others: these stand first where the others do, and no number of theirs may come again
+first-behind : (front rest : List Row) → all marked front ≡ true → markedFirst (front ++ rest) ≡ markedFirst rest
+unfolding markedFirst all
+first-behind [] rest m = refl
+first-behind (f ∷ fs) rest m =
+    let parts = and-parts (marked f) (all marked fs) m in
+    rw (parts .0) (first-behind fs rest (parts .1))
 
-unnumbered : (n : ℕ) (rs : List Row) → all allZero rs ≡ true → any (numbered n) rs ≡ false
-unfolding all any
-unnumbered n [] z = refl
-unnumbered n (r ∷ rs) z =
-    let both = and-eq-true-iff (allZero r) (all allZero rs) .0 z in
-    rw (zero-free r (both .0)) (unnumbered n rs (both .1))
+twice : (front : List Row) (r : Row) (rs : List Row) → all marked front ≡ true → marked r ≡ true → any (hasNumber (r .number)) front ≡ true → numbersDiffer (front ++ (r ∷ rs)) ≡ false
+unfolding numbersDiffer all any
+twice [] r rs m mark held = never held refl
+twice (f ∷ fs) r rs m mark held =
+    let parts = and-parts (marked f) (all marked fs) m in
+    ⊎-elim
+    (λ e.
+    let again : any (numbered (f .number)) (fs ++ (r ∷ rs)) ≡ true =
+    any-append (numbered (f .number)) fs (r ∷ rs) ∙ or-second (any (numbered (f .number)) fs) (or-first (any (numbered (f .number)) rs) (and-whole mark (eq-eqb (r .number) (f .number) (sym (eqb-true (f .number) (r .number) e))))) in
+    rw (parts .0, again))
+    (λ e. rw (twice fs r rs (parts .1) mark e, and-false))
+    (or-cases (hasNumber (r .number) f) (any (hasNumber (r .number)) fs) held)
 
-free-sound : (securities clock : ℕ) (r : Row) → eqb (r .mark) 0 ≡ true → soundRow securities clock r ≡ allZero r
-unfolding soundRow
-free-sound securities clock r e = rw (eqb-true (r .mark) 0 e, or-false)
+module _ (securities clock : ℕ) where
+  sound-mark : (r : Row) → soundMarked securities clock r ≡ true → marked r ≡ true
+  sound-mark r e = state-marked clock r (marked-true securities clock r e .state)
 
-marked-sound : (securities clock : ℕ) (r : Row) → eqb (r .mark) 0 ≡ false → soundRow securities clock r ≡ soundMarked securities clock r
-unfolding soundRow
-marked-sound securities clock r e = rw (marked-nonzero r e)
+  -- sound rows of which none is marked
+  unmarked-zero : (rs : List Row) → all (soundRow securities clock) rs ≡ true → any marked rs ≡ false → all allZero rs ≡ true
+  unfolding all any rowWords
+  unmarked-zero [] sound none = refl
+  unmarked-zero (r ∷ rs) sound none =
+      let parts = and-parts (soundRow securities clock r) (all (soundRow securities clock) rs) sound in
+      let free = or-parts (marked r) (any marked rs) none in
+      let zero-words : allZero r ≡ true = rw (unmarked-free securities clock r (parts .0) (free .0)) in
+      and-whole zero-words (unmarked-zero rs (parts .1) (free .1))
 
--- where the rest is all zero, a number stands among the rows if it stands among the leading ones
-number-leads : (n : ℕ) (rs : List Row) → all allZero (drop (leading rs) rs) ≡ true → any (numbered n) rs ≡ any (equals n) (map rowNumber (take (leading rs) rs))
-unfolding leading any
-number-leads n [] z = refl
-number-leads n (r ∷ rs) z = go (eqb (r .mark) 0) refl (number-leads n rs) z
-  where
-    go : (t : Bool) → eqb (r .mark) 0 ≡ t
-        → (all allZero (drop (leading rs) rs) ≡ true → any (numbered n) rs ≡ any (equals n) (map rowNumber (take (leading rs) rs)))
-        → all allZero (drop (cond (not t) (suc (leading rs)) 0) (r ∷ rs)) ≡ true
-        → (not (eqb (r .mark) 0) && eqb (r .number) n || any (numbered n) rs) ≡ any (equals n) (map rowNumber (take (cond (not t) (suc (leading rs)) 0) (r ∷ rs)))
-    go true e rest z = unnumbered n (r ∷ rs) z
-    go false e rest z = rw (e, rest z)
+  -- rows that lead, and the rest: the rest is all zero exactly where all are sound
+  module _ (front : List Row) (sound : all (soundMarked securities clock) front ≡ true) (differ : numbersDiffer front ≡ true) where
+    lead-marked : all marked front ≡ true
+    lead-marked = all-weaken (soundMarked securities clock) marked sound-mark front sound
 
--- rows of which none is marked
-free-rows : (securities clock : ℕ) (rs : List Row) → (all (soundRow securities clock) rs && not (any marked rs) && numbersDiffer rs) ≡ all allZero rs
-unfolding all any numbersDiffer
-free-rows securities clock [] = refl
-free-rows securities clock (r ∷ rs) = go (eqb (r .mark) 0) refl (free-rows securities clock rs)
-  where
-    go : (t : Bool) → eqb (r .mark) 0 ≡ t → (all (soundRow securities clock) rs && not (any marked rs) && numbersDiffer rs) ≡ all allZero rs
-        → ((soundRow securities clock r && all (soundRow securities clock) rs) && not (not (eqb (r .mark) 0) || any marked rs) && (not (not (eqb (r .mark) 0) && any (numbered (r .number)) rs) && numbersDiffer rs))
-        ≡ (allZero r && all allZero rs)
-    go true e rest =
-        rw (free-sound securities clock r e, e, ← rest) (simp and-assoc)
-    go false e rest = rw (e, marked-nonzero r e) (ap (λ (b : Bool). b && (not (any (numbered (r .number)) rs) && numbersDiffer rs)) (and-false (soundRow securities clock r && all (soundRow securities clock) rs)))
+    rest-zero : (rest : List Row) → all allZero rest ≡ true → soundRows securities clock (front ++ rest) ≡ true
+    unfolding soundRow
+    rest-zero rest z =
+        let each : all (soundRow securities clock) front ≡ true = all-weaken (soundMarked securities clock) (soundRow securities clock) (λ r e. or-second (allZero r) e) front sound in
+        let all-sound = sound-closed securities clock front (length rest) each lead-marked differ in
+        rw (zeros-free rest z) (and-whole (and-whole (all-sound .each) (all-sound .first)) (all-sound .differ))
 
--- what is asked of a marked row and those after it: s of the row itself, n and m say that its number comes again
-swap : (s a f d n m z b p : Bool) → (a && f && d) ≡ (z && (b && p)) → (z ≡ true → n ≡ m) → ((s && a) && f && (not n && d)) ≡ (z && ((s && b) && (not m && p)))
-swap false a f d n m true b p e g = refl
-swap false a f d n m false b p e g = refl
-swap true a f d true m true b p e g = and-false (a && f) ∙ rw (sym (g refl)) (sym (and-false b))
-swap true a f d false m true b p e g = e ∙ rw (sym (g refl))
-swap true a f d true m false b p e g = and-false (a && f)
-swap true a f d false m false b p e g = e
+    rest-sound : (r : Row) (rs : List Row) → follows securities clock front r ≡ false → soundRows securities clock (front ++ (r ∷ rs)) ≡ true → all allZero (r ∷ rs) ≡ true
+    unfolding markedFirst soundRow any all
+    rest-sound r rs last tests = go (marked r) refl (rw (first-behind front (r ∷ rs) lead-marked) at (p .1 .0))
+      where
+        p : (all (soundRow securities clock) (front ++ (r ∷ rs)) ≡ true) × EachTrue (markedFirst (front ++ (r ∷ rs)) ∷ numbersDiffer (front ++ (r ∷ rs)) ∷ [])
+        p = joined-parts (all (soundRow securities clock) (front ++ (r ∷ rs))) (markedFirst (front ++ (r ∷ rs)) ∷ numbersDiffer (front ++ (r ∷ rs)) ∷ []) tests
 
--- the test by leading rows and words is the definition's test
-sound-split : (securities clock : ℕ) (rs : List Row)
-    → soundRows securities clock rs ≡ (all allZero (drop (leading rs) rs) && soundLeading securities clock (take (leading rs) rs))
-unfolding leading all any markedFirst numbersDiffer soundLeading apart
-sound-split securities clock [] = refl
-sound-split securities clock (r ∷ rs) = go (eqb (r .mark) 0) refl (sound-split securities clock rs)
-  where
-    go : (t : Bool) → eqb (r .mark) 0 ≡ t
-        → soundRows securities clock rs ≡ (all allZero (drop (leading rs) rs) && soundLeading securities clock (take (leading rs) rs))
-        → ((soundRow securities clock r && all (soundRow securities clock) rs) && cond (not (eqb (r .mark) 0)) (markedFirst rs) (not (any marked rs)) && (not (not (eqb (r .mark) 0) && any (numbered (r .number)) rs) && numbersDiffer rs))
-        ≡ (all allZero (drop (cond (not t) (suc (leading rs)) 0) (r ∷ rs)) && soundLeading securities clock (take (cond (not t) (suc (leading rs)) 0) (r ∷ rs)))
-    go true e rest =
-        rw (free-sound securities clock r e, e, ← free-rows securities clock rs, and-true) (simp and-assoc)
-    go false e rest =
-        rw (marked-sound securities clock r e, e)
-        (swap (soundMarked securities clock r) (all (soundRow securities clock) rs) (markedFirst rs) (numbersDiffer rs) (any (numbered (r .number)) rs) (any (equals (r .number)) (map rowNumber (take (leading rs) rs)))
-        (all allZero (drop (leading rs) rs)) (all (soundMarked securities clock) (take (leading rs) rs)) (apart (map rowNumber (take (leading rs) rs))) rest (number-leads (r .number) rs))
+        each : all (soundRow securities clock) (r ∷ rs) ≡ true
+        each = and-parts (all (soundRow securities clock) front) (all (soundRow securities clock) (r ∷ rs)) (sym (all-join (soundRow securities clock) front (r ∷ rs)) ∙ p .0) .1
 
-pub rows-tested : (securities clock n : ℕ) (w : List ℕ) {free sound : Bool} → length w ≡ rowSize * deskRows → n ≡ leading (rowsOf deskRows w)
-    → free ≡ all (equals 0) (take (length w - rowSize * n) (drop (rowSize * n) w)) → sound ≡ soundLeading securities clock (rowsOf n w) → (free && sound) ≡ soundRows securities clock (rowsOf deskRows w)
-rows-tested securities clock n w size e f g =
-    let most : n ≤ deskRows = leading-most n w e in
-    let left : length (drop (rowSize * n) w) ≡ rowSize * (deskRows - n) = length-drop (rowSize * n) w ∙ (omega arith) in
-    let rest : take (length w - rowSize * n) (drop (rowSize * n) w) ≡ drop (rowSize * n) w = take-all (length w - rowSize * n) (drop (rowSize * n) w) (omega (arith, left)) in
-    rw (f, g, rest, zero-rows (deskRows - n) (drop (rowSize * n) w) left, ← rows-drop n deskRows w most, ← rows-take n deskRows w most, e)
-    (sym (sound-split securities clock (rowsOf deskRows w)))
+        -- a marked row is sound, so its number stands before it
+        again : marked r ≡ true → soundMarked securities clock r ≡ true → numbersDiffer (front ++ (r ∷ rs)) ≡ false
+        again mark s = twice front r rs lead-marked mark (not-false (any (hasNumber (r .number)) front) (and-second (soundMarked securities clock r) (not (any (hasNumber (r .number)) front)) last s))
+
+        go : (t : Bool) → marked r ≡ t → cond t (markedFirst rs) (not (any marked rs)) ≡ true → all allZero (r ∷ rs) ≡ true
+        go true mark first =
+            ⊎-elim (λ z. let free : marked r ≡ false = rw (zero-free r z) in never mark free) (λ s. never (p .1 .1 .0) (again mark s))
+            (or-cases (allZero r) (soundMarked securities clock r) (and-parts (soundRow securities clock r) (all (soundRow securities clock) rs) each .0))
+        go false mark first = unmarked-zero (r ∷ rs) each (rw mark (not-true (any marked rs) first))
+
+    rest-tested : (m : ℕ) (v : List ℕ) → (0 < m → follows securities clock front (rowOf (take rowSize v)) ≡ false) → all allZero (rowsOf m v) ≡ soundRows securities clock (front ++ rowsOf m v)
+    unfolding rowsOf all
+    rest-tested zero v next = sym (rest-zero [] refl)
+    rest-tested (suc m) v next =
+        let rest : List Row = rowsOf (suc m) v in
+        same (all allZero rest) (soundRows securities clock (front ++ rest)) (rest-zero rest) (rest-sound (rowOf (take rowSize v)) (rowsOf m (drop rowSize v)) (next (omega arith)))
+
+-- the test of the words behind the rows that lead is the definition's test of all rows
+pub rows-tested : {securities clock n : ℕ} {w : List ℕ} {free : Bool} → length w ≡ rowSize * deskRows → Leading securities clock w n
+    → free ≡ all (equals 0) (take (length w - rowSize * n) (drop (rowSize * n) w)) → free ≡ soundRows securities clock (rowsOf deskRows w)
+unfolding part
+rows-tested {securities} {clock} {n} {w} size lead e =
+    let words : List ℕ = drop (rowSize * n) w in
+    let left : length words ≡ rowSize * (deskRows - n) = length-drop (rowSize * n) w ∙ (omega (arith, lead .to)) in
+    let whole : n + (deskRows - n) ≡ deskRows = omega (arith, lead .to) in
+    e
+    ∙ ap (all (equals 0)) (take-all (length w - rowSize * n) words (omega (arith, left)))
+    ∙ zero-rows (deskRows - n) words left
+    ∙ rest-tested securities clock (rowsOf n w) (lead .sound) (lead .differ) (deskRows - n) words (λ some. lead .next (omega (arith, some)))
+    ∙ ap (λ (rs : List Row). soundRows securities clock rs) (sym (rows-split n (deskRows - n) w) ∙ ap (λ (k : ℕ). rowsOf k w) whole)
 
 -- a desk's rows in the words of the state
 pub desk-tested : (w : List ℕ) (k : ℕ) {from : ℕ} {sound : Bool} → from ≡ deskPlace (headerOf w .securities) k

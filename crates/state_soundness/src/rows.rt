@@ -7,7 +7,7 @@ ghost use Rattle.definitions.specs.Codes.{deskRows};
 ghost use Rattle.definitions.specs.Lists.{any, all};
 ghost use Rattle.definitions.specs.State.{rowSize, deskSize, headerOf, rowsOf, deskPlace};
 ghost use Rattle.definitions.specs.Gate.{soundDeskAt};
-ghost use Rattle.state_soundness.specs.Tested.{equals, leading, soundLeading, soundRows};
+ghost use Rattle.state_soundness.specs.Tested.{equals, hasNumber, Leading, soundRows};
 use crate::sound::sound_marked;
 use definitions::codes::COUNTERS_SIZE;
 use definitions::codes::DESK_ROWS;
@@ -17,70 +17,65 @@ use state::desk_place_in;
 use state::header_of;
 use state_records::row_of;
 
-fn marked_rows(rows: &[u32]) -> usize
-    requires { ⌜ length (now rows) ≡ rowSize * deskRows ⌝ }
-    ensures { λ n. ⌜ n ≡ leading (rowsOf deskRows (now (rows .entry))) ⌝ }
-{
-    let mut n: usize = 0;
-    while n < DESK_ROWS {
-        if rows[ROW_SIZE * n] == 0 {
-            return n;
-        }
-        n += 1;
-    }
-    n
-}
-
+// The words are OR-ed together and compared once: a comparison of each costs more.
 fn all_zero(words: &[u32]) -> bool
     ensures { λ r. ⌜ r ≡ all (equals 0) (now (words .entry)) ⌝ }
 {
-    let mut ok = true;
+    let mut bits = 0;
     let mut i = 0;
     while i < words.len() {
-        ok = ok & (words[i] == 0);
+        bits = bits | words[i];
         i += 1;
     }
-    ok
+    bits == 0
 }
 
-fn holds(numbers: &[u32], number: u32) -> bool
-    ensures { λ r. ⌜ r ≡ any (equals number) (now (numbers .entry)) ⌝ }
-{
-    let mut found = false;
-    let mut i = 0;
-    while i < numbers.len() {
-        found = found | (numbers[i] == number);
-        i += 1;
-    }
-    found
-}
-
-// The first `count` rows, each compared with those before it.
-fn marked_sound(securities: u32, clock: u32, rows: &[u32], count: usize) -> bool
+fn number_before(rows: &[u32], count: usize, number: u32) -> bool
     requires { ⌜ (length (now rows) ≡ rowSize * deskRows) × (count ≤ deskRows) ⌝ }
-    ensures { λ r. ⌜ r ≡ soundLeading securities clock (rowsOf count (now (rows .entry))) ⌝ }
+    ensures { λ r. ⌜ r ≡ any (hasNumber number) (rowsOf count (now (rows .entry))) ⌝ }
 {
-    let mut ok = true;
-    let mut numbers = [0u32; DESK_ROWS];
     let mut i: usize = 0;
     while i < count {
-        let at = ROW_SIZE * i;
-        let row = row_of(&rows[at..at + ROW_SIZE]);
-        let twice = holds(&numbers[..i], row.number);
-        ok = ok & sound_marked(securities, clock, row) & !twice;
-        numbers[i] = row.number;
+        if rows[ROW_SIZE * i + 1] == number {
+            return true;
+        }
         i += 1;
     }
-    ok
+    false
 }
 
+// A number above all before it is compared with none: the numbers of orders mostly ascend.
+fn leading_sound(securities: u32, clock: u32, rows: &[u32]) -> usize
+    requires { ⌜ length (now rows) ≡ rowSize * deskRows ⌝ }
+    ensures { λ n. ⌜ Leading securities clock (now (rows .entry)) n ⌝ }
+{
+    let mut largest = 0;
+    let mut i: usize = 0;
+    while i < DESK_ROWS {
+        let at = ROW_SIZE * i;
+        let row = row_of(&rows[at..at + ROW_SIZE]);
+        if !sound_marked(securities, clock, row) {
+            return i;
+        }
+        if largest < row.number {
+            largest = row.number;
+        } else {
+            if number_before(rows, i, row.number) {
+                return i;
+            }
+        }
+        i += 1;
+    }
+    i
+}
+
+// Where the rest begins with a marked row, which is unsound or has a number that stands before it, the rest is not all zero: the row's mark is not.
 fn sound_rows(securities: u32, clock: u32, rows: &[u32]) -> bool
     requires { ⌜ length (now rows) ≡ rowSize * deskRows ⌝ }
     ensures { λ r. ⌜ r ≡ soundRows securities clock (rowsOf deskRows (now (rows .entry))) ⌝ }
 {
-    let count = marked_rows(rows);
-    let free = ROW_SIZE * count;
-    all_zero(&rows[free..]) & marked_sound(securities, clock, rows, count)
+    let count = leading_sound(securities, clock, rows);
+    all_zero(&rows[ROW_SIZE * count..])
 }
 
 // The rows stand behind the counters, of which every value is sound.

@@ -28,26 +28,30 @@ pub fn sound_security_at(words: &[u32], s: u32) -> bool
 pub fn priced_as(order_type: u32, price: u32) -> bool
     ensures { λ r. ⌜ r ≡ pricedAs «order_type» price ⌝ }
 {
-    ((order_type == LIMIT) & Ladder::legal(price)) | (!(order_type == LIMIT) & (price == 0))
+    if order_type == LIMIT {
+        return Ladder::legal(price);
+    }
+    price == 0
 }
 
 fn open_or_cancelled(clock: u32, r: Row) -> bool
     ensures { λ t. ⌜ t ≡ openOrCancelled clock r ⌝ }
 {
-    ((r.mark == OPEN_MARK) & (r.cancel_time == 0))
-        | ((r.mark == CANCELLED_MARK) & (r.cancel_time <= clock) & (r.order_type == LIMIT))
+    if r.mark == OPEN_MARK {
+        return r.cancel_time == 0;
+    }
+    (r.mark == CANCELLED_MARK) & (r.cancel_time <= clock) & (r.order_type == LIMIT)
 }
 
+// A free row, where the marked rows end, fails the first test, and no other is made.
 pub fn sound_marked(securities: u32, clock: u32, r: Row) -> bool
     ensures { λ t. ⌜ t ≡ soundMarked securities clock r ⌝ }
 {
     open_or_cancelled(clock, r)
-        & (0 < r.number)
-        & (r.security < securities)
-        & (r.board <= FOREIGN_BOARD)
-        & (r.side <= SELL)
-        & (r.order_type <= MP)
-        & priced_as(r.order_type, r.price)
-        & (1 <= r.volume)
-        & (r.volume <= MAX_VOLUME)
+        && (0 < r.number)
+        && (r.security < securities)
+        && ((r.board <= FOREIGN_BOARD) & (r.side <= SELL))
+        && (r.order_type <= MP)
+        && priced_as(r.order_type, r.price)
+        && ((1 <= r.volume) & (r.volume <= MAX_VOLUME))
 }
