@@ -3,7 +3,7 @@
 -- a well-formed state, in WellFormed.antt, `AppliesFirst` in Verdicts.antt, `Belongs` in Ownership.antt, what a counter counts in Counters.antt, what a
 -- session change leaves in SessionChange.antt, `StandsIn` in Standing.antt, a row as a cancel marks it in Minute.antt, the session of an ATO, ATC or MP row
 -- in SessionRows.antt, `RestLimited` and `withoutMpRows` in RestRows.antt, `MpRow` in SoundRow.antt, warn 10 on a step and between two in AdjustedClose.antt, `Smaller`, `RangeInWords` and C by the
--- base in CeilingFloor.antt, `IsCeiling` and `IsFloor` in RangeLaws.antt, `NoneWithin` in RangeEmpty.antt, and what changes figures in FiguresSet.antt. That the code does what `outcome` says is the contract of `gate::handle`.
+-- base in CeilingFloor.antt, `IsCeiling` and `IsFloor` in RangeLaws.antt, `NoneWithin` in RangeEmpty.antt, what changes figures in FiguresSet.antt, and what an order does in two states that are alike for it in OneOrder.antt. That the code does what `outcome` says is the contract of `gate::handle`.
 -- Assumes nothing.
 use mathlib.Core.Bool.{Bool, true, not, false}
 use mathlib.Core.List.{List}
@@ -60,6 +60,8 @@ use Rattle.definitions.proofs.CeilingFloor as ceilingFloor
 use Rattle.definitions.proofs.CeilingFloor.{Smaller, RangeInWords, ruleCByBase}
 use Rattle.definitions.proofs.FiguresSet as figuresSet
 use Rattle.definitions.proofs.FiguresSet.{withFigures, figuresBy}
+use Rattle.definitions.proofs.OneOrder as oneOrder
+use Rattle.definitions.proofs.OneOrder.{AlikeFor, OneOrder}
 use Rattle.definitions.proofs.SoundRow as soundRow
 use Rattle.definitions.proofs.SoundRow.{MpRow}
 use Rattle.definitions.proofs.SoundDesk.{desk-true}
@@ -351,3 +353,9 @@ module _ (customers securities : ℕ) (fit : sizesFit customers securities ≡ t
         market = a .market ∙ ap (λ (bs : List (List ℕ)). loneAfter lone bs .market) same ∙ sym (b .market);
         desk = a .desk ∙ ap (λ (bs : List (List ℕ)). deskWords (loneAfter lone bs .desk)) same ∙ sym (b .desk);
       }
+
+-- Paper 02, 4, of any words, since nothing is asked of a history here: "Show that in two lent states of one length, alike in the header, the order's security and its
+-- desk, the order gets the same answer, leaves these alike and changes no other word, whatever the others hold." Of calls of `gate::handle` it is in
+-- crates/gate/proofs/OneOrder.antt.
+pub one-order : (v w b : List ℕ) (k : ℕ) (o : Order) → eventIn b ≡ event.Order k o → AlikeFor (o .security) k v w → OneOrder (o .security) k b v w
+one-order v w b k o is-order alike = oneOrder.one-order b k o is-order v w alike

@@ -39,7 +39,7 @@ use Rattle.definitions.proofs.WellFormed.{Good, fits, compared, records
 abbrev pub loneOf : List ℕ → ℕ → Lone
 loneOf w k = record { market = marketWords w; desk = deskAt w k }
 
-abbrev viewWith : Header → Security → Desk → View
+abbrev pub viewWith : Header → Security → Desk → View
 viewWith h s d = record { market = record { session = h .session; clock = h .clock; security = s }; desk = d }
 
 -- the number found first, given the header, the records' condition and what the event meets

@@ -40,6 +40,7 @@ pub mod RangeLaws
 pub mod RangeEmpty
 pub mod CeilingFloor
 pub mod FiguresSet
+pub mod OneOrder
 -- the three demands
 pub mod Demands
 -- the paper's cases
@@ -57,5 +58,6 @@ pub mod DoneCorners
 pub mod RestCorners
 pub mod CloseCorners
 pub mod RangeCorners
+pub mod OrderCorners
 pub mod EventCases
 pub mod AnswerCases

@@ -1,19 +1,23 @@
--- Laws of a state: what its header, its records and the market's words are after a record was put back.
+-- Laws of a state: how long it is where it fits, and what its header, its records and the market's words are after a record was put back.
 -- Assumes nothing.
-use mathlib.Core.List.{List}
-use mathlib.Core.Path.{_≡_, ap, sym, _∙_}
+use mathlib.Core.Bool.{true}
+use mathlib.Core.List.{List, [], _∷_}
+use mathlib.Core.Path.{_≡_, refl, ap, sym, _∙_}
 use Prim.Native.Nat.{ℕ, _+_, _≤_, _<_}
 use native.Mathlib.Omega.{arith}
+use lib.Dec.{leb, eqb}
 use lib.ListN.{length, take}
+use borrow.Author.Tests.{eqb-true}
 use Rattle.definitions.specs.declared.Header.{Header}
 use Rattle.definitions.specs.declared.Security.{Security}
 use Rattle.definitions.specs.declared.Desk.{Desk}
 use Rattle.definitions.specs.Lists.{part, put}
-use Rattle.definitions.specs.State.{headerOf, securityPlace, deskPlace, stateSize, securityOf, securityWords, deskOf, deskWords, securityAt, deskAt, putSecurity, putDesk, headerSize, securitySize, deskSize, headerIn}
+use Rattle.definitions.specs.State.{headerOf, securityPlace, deskPlace, stateSize, securityOf, securityWords, deskOf, deskWords, securityAt, deskAt, putSecurity, putDesk, headerSize, securitySize, deskSize, headerIn, sizesFit, stateFits}
 use Rattle.definitions.specs.Lone.{marketWords, customerWords}
+use Rattle.definitions.proofs.Tests.{joined-parts}
 use Rattle.definitions.proofs.Words as words
 use Rattle.definitions.proofs.Records.{length-security, security-read, length-desk, desk-read, desk-write, length-rows}
-use Rattle.definitions.specs.Codes.{deskRows}
+use Rattle.definitions.specs.Codes.{deskRows, lastTime, preClose}
 
 pub header-put : (w : List ℕ) (place : ℕ) (xs : List ℕ) → place + length xs ≤ length w → headerSize ≤ place → headerOf (put w place xs) ≡ headerOf w
 unfolding headerOf
@@ -23,6 +27,17 @@ header-put w place xs fits h = ap headerIn (words.part-put-before w place xs fit
 pub record Sized (customers securities : ℕ) (w : List ℕ) : Type 0 where
   pub long : length w ≡ stateSize customers securities
   pub counted : headerOf w .securities ≡ securities
+
+-- words that fit, condition 1, are as many as their header says
+pub fits-length : (w : List ℕ) → stateFits w ≡ true → length w ≡ stateSize (headerOf w .customers) (headerOf w .securities)
+unfolding stateFits
+fits-length w fits =
+    let h = headerOf w in
+    let size = stateSize (h .customers) (h .securities) in
+    eqb-true (length w) size (joined-parts (sizesFit (h .customers) (h .securities)) (eqb (length w) size ∷ leb (h .clock) lastTime ∷ leb (h .session) preClose ∷ []) fits .1 .0)
+
+pub fits-sized : (w : List ℕ) → stateFits w ≡ true → Sized (headerOf w .customers) (headerOf w .securities) w
+fits-sized w fits = record { long = fits-length w fits; counted = refl }
 
 module _ {customers securities : ℕ} (w : List ℕ) (sized : Sized customers securities w) where
   -- a desk stands where the count of securities says

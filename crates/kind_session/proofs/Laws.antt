@@ -18,10 +18,10 @@ use Rattle.definitions.specs.State.{securitySize, deskSize, sessionPlace, secur
 use Rattle.definitions.specs.Desks.{changed, sessionRow}
 use Rattle.definitions.specs.Gate.{resultOf, changeSecurity, withoutProjected, changeDesk, afterSession, sessionMarket, perform}
 use Rattle.definitions.proofs.Lists.{each-next}
-use Rattle.definitions.proofs.State.{Sized}
+use Rattle.definitions.proofs.State.{Sized, fits-sized}
 use Rattle.definitions.proofs.HeaderWords as words
 use Rattle.definitions.proofs.Session.{Cleared, clears, DesksChanged, changes}
-use Rattle.state.proofs.Fits.{fits-header, fits-sized}
+use Rattle.state.proofs.Fits.{fits-header}
 use Rattle.kind_contract.proofs.Done.{Left}
 
 -- what the loops require: the words are as many as the header says

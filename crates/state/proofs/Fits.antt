@@ -1,19 +1,17 @@
--- Condition 1: what words that do not fit and words that fit are known to be, and what a state that fits has room for.
+-- Condition 1: what words that do not fit are known to be, and what a state that fits has room for.
 -- Assumes nothing.
 use mathlib.Core.Bool.{true, false, and-false}
-use mathlib.Core.List.{List, [], _∷_}
-use mathlib.Core.Path.{_≡_, refl}
+use mathlib.Core.List.{List}
+use mathlib.Core.Path.{_≡_}
 use Prim.Native.Nat.{ℕ, _+_, _≤_, _<_}
 use native.Mathlib.Omega.{arith}
-use lib.Dec.{leb, eqb, lit<}
+use lib.Dec.{lit<}
 use lib.ListN.{length}
 use lib.Seq.{getD-take}
-use borrow.Author.Tests.{eqb-true, ne-eqb}
+use borrow.Author.Tests.{ne-eqb}
 use Rattle.definitions.specs.Lists.{part}
-use Rattle.definitions.specs.Codes.{lastTime, preClose}
-use Rattle.definitions.specs.State.{headerSize, securitySize, deskSize, headerIn, headerOf, sizesFit, stateSize, stateFits, securityPlace, deskPlace}
-use Rattle.definitions.proofs.State.{Sized}
-use Rattle.definitions.proofs.Tests.{joined-parts}
+use Rattle.definitions.specs.State.{headerSize, securitySize, deskSize, headerIn, headerOf, stateSize, stateFits, securityPlace, deskPlace}
+use Rattle.definitions.proofs.State.{fits-length}
 
 -- the header's words are the first of the state's
 pub header-words : (w : List ℕ) → headerOf w ≡ headerIn w
@@ -28,21 +26,11 @@ no-header w h =
     rw (ne-eqb (length w) (stateSize (headerOf w .customers) (headerOf w .securities)) (λ e. omega arith), and-false)
 
 module _ (w : List ℕ) (fits : stateFits w ≡ true) where
-  pub fits-length : length w ≡ stateSize (headerOf w .customers) (headerOf w .securities)
-  unfolding stateFits
-  fits-length =
-      let h = headerOf w in
-      let size = stateSize (h .customers) (h .securities) in
-      eqb-true (length w) size (joined-parts (sizesFit (h .customers) (h .securities)) (eqb (length w) size ∷ leb (h .clock) lastTime ∷ leb (h .session) preClose ∷ []) fits .1 .0)
-
-  pub fits-sized : Sized (headerOf w .customers) (headerOf w .securities) w
-  fits-sized = record { long = fits-length; counted = refl }
-
   pub fits-header : headerSize ≤ length w
-  fits-header = omega (arith, fits-length)
+  fits-header = omega (arith, fits-length w fits)
 
   pub fits-security : (s : ℕ) → s < headerOf w .securities → securityPlace s + securitySize ≤ length w
-  fits-security s below = omega (arith, fits-length)
+  fits-security s below = omega (arith, fits-length w fits)
 
   pub fits-desk : (k : ℕ) → k < headerOf w .customers → deskPlace (headerOf w .securities) k + deskSize ≤ length w
-  fits-desk k below = omega (arith, fits-length)
+  fits-desk k below = omega (arith, fits-length w fits)

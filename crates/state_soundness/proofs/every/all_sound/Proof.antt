@@ -1,7 +1,7 @@
 -- `state_soundness::every::all_sound` meets its contract: every security below S, and every desk below C.
 -- Assumes nothing.
 use native.Mathlib.Omega.{arith}
-use Rattle.state.proofs.Fits.{fits-length}
+use Rattle.definitions.proofs.State.{fits-length}
 use Rattle.state_soundness.proofs.every.all_sound.Statement.{statement}
 use Rattle.state_soundness.proofs.every.all_sound.Tie as tie
 
