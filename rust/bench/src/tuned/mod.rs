@@ -2,9 +2,9 @@
 //! paper 02, tuned for speed: how fast a machine can give these answers.
 //!
 //! Records are tested and changed where they stand in the lent words. Every kind
-//! goes through the paper's table from top to bottom and writes only after its
-//! last check, and then only words that change. A refusal stands by its number in
-//! that table, an answer by the library's number.
+//! goes through the paper's table from top to bottom and writes after its last
+//! check, no record as a whole. A refusal stands by its number in that table, an
+//! answer by the library's number.
 
 mod desk;
 mod ladder;
