@@ -101,7 +101,7 @@ pub fn bases() -> Vec<(&'static str, Vec<u32>)> {
 fn after(text: &str) -> Vec<u32> {
     let mut words = fresh(CUSTOMERS, SECURITIES);
     for event in lines(text) {
-        let number = crate::both::number(gate::handle(&mut words, &event));
+        let number = crate::comparison::number(gate::handle(&mut words, &event));
         assert!(
             number == 0 || (100..200).contains(&number),
             "{}",

@@ -6,7 +6,7 @@ use guvontsira::library;
 use second::lone::{LoneRun, Owner, belongs};
 use second::state::DESK_WORDS;
 
-use crate::both::number;
+use crate::comparison::number;
 use crate::layout::{desk_start, fresh, meaning};
 use crate::mixture::MIXTURES;
 use crate::program::Program;

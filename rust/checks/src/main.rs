@@ -1,9 +1,9 @@
-//! Holds the linked order gate against the second implementation: answers and
-//! every word.
+//! Holds the linked order gate against the second implementation and the tuned
+//! one: answers and every word.
 
 mod arguments;
 mod bases;
-mod both;
+mod comparison;
 mod counters;
 mod customers;
 mod damage;

@@ -4,7 +4,7 @@ use guvontsira::library;
 use second::gate;
 use second::state::word_count;
 
-use crate::both::{Lent, number};
+use crate::comparison::{Lent, number};
 use crate::program::Program;
 use crate::report::first_wrong;
 

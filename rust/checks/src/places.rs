@@ -5,7 +5,7 @@ use second::event::{Event, Figures, Order, Setup, decode};
 use second::ladder::{self, LAST_PRICE};
 use second::state::{Header, MAX_IPO, Security};
 
-use crate::both::number;
+use crate::comparison::number;
 use crate::range_places::{self, RANGE_PLACES, RANGE_POSSIBLE};
 
 /// Kinds 1 to 9 under their numbers, unknown kinds under 0, no bytes under 10.

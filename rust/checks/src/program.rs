@@ -4,7 +4,7 @@ use std::collections::HashMap;
 use std::fmt;
 use std::time::{Duration, Instant};
 
-use crate::both::{Both, Difference};
+use crate::comparison::{Comparison, Difference};
 use crate::places::place;
 use crate::random::Random;
 use crate::report;
@@ -25,7 +25,7 @@ pub struct Program {
     seed: u64,
     group: &'static str,
     round: Option<u64>,
-    both: Both,
+    comparison: Comparison,
     pub passed: u64,
     pub failed: u64,
     failed_in: HashMap<&'static str, u32>,
@@ -44,7 +44,7 @@ impl Program {
             seed,
             group: "",
             round: None,
-            both: Both::default(),
+            comparison: Comparison::default(),
             passed: 0,
             failed: 0,
             failed_in: HashMap::new(),
@@ -82,7 +82,7 @@ impl Program {
         Random::of_round(self.seed, self.group, self.round.unwrap_or(0))
     }
 
-    /// Events in turn from these words, both implementations beside each other.
+    /// Events in turn from these words, all implementations beside each other.
     pub fn case(&mut self, name: fmt::Arguments, start: &[u32], events: &[Vec<u8>]) {
         self.case_expecting(name, start, events, &[]);
     }
@@ -160,9 +160,9 @@ impl Program {
         expected: &[Option<u32>],
         counts: bool,
     ) -> Option<Failure> {
-        self.both.start(start);
+        self.comparison.start(start);
         for (place, event) in events.iter().enumerate() {
-            let answer = match self.both.send(event) {
+            let answer = match self.comparison.send(event) {
                 Ok(answer) => answer,
                 Err(difference) => return Some((place, difference)),
             };
@@ -183,7 +183,7 @@ impl Program {
         if let Some(share) = self.shares.current() {
             share.events += 1;
         }
-        let place = place(self.both.words(), event, answer);
+        let place = place(self.comparison.words(), event, answer);
         self.all.add(place, answer);
         if self.counts_history {
             self.histories.add(place, answer);

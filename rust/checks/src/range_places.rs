@@ -7,7 +7,7 @@ use second::ladder;
 use second::range::Range;
 use second::state::Security;
 
-use crate::both::number;
+use crate::comparison::number;
 
 /// At the floor and one step below it, at the ceiling and one step above it, of
 /// ranges from the prior close alone; the same where there are figures; and any

@@ -9,7 +9,7 @@ use second::ladder::LAST_PRICE;
 use second::range;
 use second::state::word_count;
 
-use crate::both::Lent;
+use crate::comparison::Lent;
 use crate::figures::any_figures;
 use crate::layout::{FIGURES, PRIOR_CLOSE, fresh, security_start};
 use crate::prices::{middle, prior_close};

@@ -4,11 +4,11 @@ use std::fmt::Write;
 
 use second::state::word_count;
 
-use crate::both::{Difference, Word, first_unlike};
+use crate::comparison::{Difference, Other, Word, first_unlike};
 use crate::layout::{fresh, meaning};
 use crate::tally::words;
 
-/// The start, the events and how the two part after the last of them.
+/// The start, the events and how the gate and another part after the last of them.
 pub fn describe(start: &[u32], events: &[Vec<u8>], difference: &Difference) -> String {
     describe_start(start)
         + &lines(events.iter().map(Vec::as_slice))
@@ -65,22 +65,32 @@ fn describe_difference(difference: &Difference, start: &[u32]) -> String {
         0..=1_024 => format!("word {place} ({})", meaning(place, securities as usize)),
         _ => format!("word {place}"),
     };
-    let unlike = |word: &Word| {
-        let (name, gate, second) = (name(word.place), word.gate, word.second);
-        format!("{name} is {gate} in the gate and {second} in the second implementation")
+    let unlike = |other: Other, word: &Word| {
+        let (name, gate, theirs) = (name(word.place), word.gate, word.other);
+        format!(
+            "{name} is {gate} in the gate and {theirs} in {}",
+            other.name()
+        )
     };
     match difference {
-        Difference::Answer { gate, second, word } => {
-            let (gate, second) = (words(*gate), words(*second));
-            let word = word.as_ref().map_or("all words are alike".into(), unlike);
-            format!("the gate answers {gate}, the second implementation {second}; {word}")
+        Difference::Answer {
+            other,
+            gate,
+            answer,
+            word,
+        } => {
+            let (gate, answer) = (words(*gate), words(*answer));
+            let word = word
+                .as_ref()
+                .map_or("all words are alike".into(), |word| unlike(*other, word));
+            format!("the gate answers {gate}, {} {answer}; {word}", other.name())
         }
         Difference::Unexpected { answer, expected } => format!(
-            "both answer {}, the case says {}",
+            "all answer {}, the case says {}",
             words(*answer),
             words(*expected)
         ),
-        Difference::Word(word) => unlike(word),
+        Difference::Word { other, word } => unlike(*other, word),
         Difference::Refusal {
             answer,
             place,
@@ -92,5 +102,38 @@ fn describe_difference(difference: &Difference, start: &[u32]) -> String {
             name(*place)
         ),
         Difference::Guard => "a word beside those lent was written".into(),
+    }
+}
+
+#[cfg(test)]
+mod tests {
+    use super::*;
+
+    #[test]
+    fn a_difference_names_the_implementation() {
+        let start = fresh(1, 1);
+        let word = Word {
+            place: 2,
+            gate: 7,
+            other: 8,
+        };
+        let difference = Difference::Word {
+            other: Other::Second,
+            word,
+        };
+        assert_eq!(
+            describe_difference(&difference, &start),
+            "word 2 (header, clock) is 7 in the gate and 8 in the second implementation"
+        );
+        let difference = Difference::Answer {
+            other: Other::Tuned,
+            gate: 0,
+            answer: 7,
+            word: None,
+        };
+        assert_eq!(
+            describe_difference(&difference, &start),
+            "the gate answers ok, the tuned implementation refused 7; all words are alike"
+        );
     }
 }

@@ -3,7 +3,7 @@
 use guvontsira::library;
 use second::event;
 
-use crate::both::Lent;
+use crate::comparison::Lent;
 use crate::histories::sizes;
 use crate::layout::{fresh, meaning};
 use crate::mixture::MIXTURES;

@@ -21,7 +21,7 @@ impl Tally {
 
     /// An answer to an event that is counted at this place.
     pub fn add(&mut self, place: usize, answer: u32) {
-        // Both implementations gave this answer, so it is one of the paper's.
+        // All implementations gave this answer, so it is one of the paper's.
         self.counts[place][answer as usize] += 1;
     }
 
