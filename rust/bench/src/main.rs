@@ -4,31 +4,33 @@
 mod list;
 mod measure;
 mod mixture;
+mod size;
+mod writer;
 
 use std::process::ExitCode;
 
 use measure::{REPEATS, measure};
-use mixture::{Mixture, prepare};
-
-const CUSTOMERS: [u32; 3] = [1, 16, 256];
-const SECURITIES: [u32; 3] = [1, 64, 1_024];
+use mixture::Mixture;
+use size::Size;
 
 const MEASURED: &str = "\
 Nanoseconds an event, one call an event, from events prepared beforehand; the
 same list for the linked gate and for the second implementation, which take
 turns. Before each repeat the words are set anew: an open session (pre-open for
-the mixture of that name), prices for every security, 10 open rows on every desk.
-The median of the repeats is shown.
-  order-heavy   of 5 events: an order that leaves a row, an MP order and the
-                match of all of it, an order that is rejected, a match of a
-                whole row; an MP order now and then meets an own one, and then
-                nothing of it is matched
+the mixture of that name), prices for every security, so many open rows on every
+desk as the column says. The median of the repeats is shown.
+  order-heavy   of 5 events: an order that leaves a row, an order that is
+                rejected, a match of a whole row, an MP order and the match of all
+                of it; an MP order now and then meets an own one, and then nothing
+                of it is matched
   pre-open      of 4 events: an order within ten positions of the prior close,
-                which is between two steps for every other security, one
-                further away, which is warned, and two matches of whole rows
+                which is between two steps for every other security, one further
+                away, which is warned, and after each a match of a whole row
   cancel-heavy  of 3 events: an order that leaves a row, a match of a part, a
-                cancel; beside them clocks, for about 5 cancels a minute
-  market-heavy  of 10 events: 7 prices, 2 clocks, 1 setup
+                cancel; beside them clocks, for about 5 cancels of a customer a
+                minute, but at 31 rows for one: its row fills the desk as long as
+                the cancel is remembered
+  market-heavy  of 10 events: 7 prices, 2 clocks, 1 setup; no desk is read
   session       session changes only; each reads every record
 ";
 
@@ -43,19 +45,17 @@ fn main() -> ExitCode {
     }
     println!("{MEASURED}Repeats: {REPEATS}\n");
     println!(
-        "{:<14}{:>10}{:>12}{:>10}{:>12}{:>12}{:>8}",
-        "mixture", "customers", "securities", "events", "gate ns", "second ns", "ratio"
+        "{:<14}{:>10}{:>12}{:>6}{:>8}{:>12}{:>12}{:>8}",
+        "mixture", "customers", "securities", "rows", "events", "gate ns", "second ns", "ratio"
     );
     for mixture in Mixture::ALL {
         if !asked.is_empty() && !asked.iter().any(|name| name == mixture.name()) {
             continue;
         }
-        for customers in CUSTOMERS {
-            for securities in SECURITIES {
-                if !line(mixture, customers, securities) {
-                    eprintln!("the two left different words: run checks");
-                    return ExitCode::FAILURE;
-                }
+        for size in mixture.sizes() {
+            if !line(mixture, size) {
+                eprintln!("the two left different words: run checks");
+                return ExitCode::FAILURE;
             }
         }
     }
@@ -66,11 +66,16 @@ fn is_mixture(name: &str) -> bool {
     Mixture::ALL.iter().any(|mixture| mixture.name() == name)
 }
 
-fn line(mixture: Mixture, customers: u32, securities: u32) -> bool {
-    let list = prepare(mixture, customers, securities);
+fn line(mixture: Mixture, size: Size) -> bool {
+    let Size {
+        customers,
+        securities,
+        rows,
+    } = size;
+    let list = mixture.prepare(size);
     let measured = measure(&list);
     println!(
-        "{:<14}{customers:>10}{securities:>12}{:>10}{:>12.1}{:>12.1}{:>8.2}",
+        "{:<14}{customers:>10}{securities:>12}{rows:>6}{:>8}{:>12.1}{:>12.1}{:>8.2}",
         mixture.name(),
         list.len(),
         measured.gate,
