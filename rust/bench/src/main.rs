@@ -30,6 +30,9 @@ desk as the column says. The median of the repeats is shown.
                 cancel; beside them clocks, for about 5 cancels of a customer a
                 minute, but at 31 rows for one: its row fills the desk as long as
                 the cancel is remembered
+  cancel-match  of 2 events: a match of a part, a cancel; cancelled rows stay on
+                the desk, which so keeps as many as it began with; when the last
+                row is cancelled the desks are set anew, and that is not timed
   market-heavy  of 10 events: 7 prices, 2 clocks, 1 setup; no desk is read
   session       session changes only; each reads every record
 ";

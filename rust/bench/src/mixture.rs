@@ -9,21 +9,24 @@ pub enum Mixture {
     Orders,
     PreOpen,
     Cancels,
+    CancelMatch,
     Market,
     Sessions,
 }
 
 /// So many events are timed in one repeat: few enough to be done before the
-/// machine turns to something else.
+/// machine turns to something else, and many, because a processor learns to
+/// predict the branches of a short list.
 const EVENTS: usize = 2_000;
 /// A session change reads every record.
 const SESSION_CHANGES: usize = 20;
 
 impl Mixture {
-    pub const ALL: [Mixture; 5] = [
+    pub const ALL: [Mixture; 6] = [
         Mixture::Orders,
         Mixture::PreOpen,
         Mixture::Cancels,
+        Mixture::CancelMatch,
         Mixture::Market,
         Mixture::Sessions,
     ];
@@ -33,6 +36,7 @@ impl Mixture {
             Mixture::Orders => "order-heavy",
             Mixture::PreOpen => "pre-open",
             Mixture::Cancels => "cancel-heavy",
+            Mixture::CancelMatch => "cancel-match",
             Mixture::Market => "market-heavy",
             Mixture::Sessions => "session",
         }
@@ -59,11 +63,17 @@ impl Mixture {
                 }
             }
         }
+        sizes.retain(|&size| self.fits(size));
         sizes
     }
 
     fn reads_desks(self) -> bool {
         self != Mixture::Market
+    }
+
+    /// Without rows there is nothing to cancel or to match.
+    fn fits(self, size: Size) -> bool {
+        self != Mixture::CancelMatch || size.rows > 0
     }
 
     fn events(self) -> usize {
@@ -137,11 +147,13 @@ mod tests {
     }
 
     fn steps(list: &List) -> impl Iterator<Item = Step> {
-        let mut words = list.start.clone();
-        list.events().map(move |event| Step {
-            kind: event[0],
-            answer: gate::handle(&mut words, event),
-            words: words.clone(),
+        list.parts.iter().flat_map(|part| {
+            let mut words = list.start.clone();
+            part.events().map(move |event| Step {
+                kind: event[0],
+                answer: gate::handle(&mut words, event),
+                words: words.clone(),
+            })
         })
     }
 
@@ -157,10 +169,21 @@ mod tests {
             for customers in [1, 16] {
                 for rows in ROWS {
                     let size = size(customers, rows);
+                    if !mixture.fits(size) {
+                        continue;
+                    }
                     let list = mixture.prepare(size);
                     assert!(all_have_open(&list.start, rows), "{mixture:?} {size:?}");
                     let last = steps(&list).last().unwrap().words;
-                    assert!(all_have_open(&last, rows), "{mixture:?} {size:?}");
+                    let kept = match mixture {
+                        // Its cancelled rows stand in their places.
+                        Mixture::CancelMatch => {
+                            let mut desks = desks(&last).into_iter();
+                            desks.all(|desk| desk.rows().len() == rows as usize)
+                        }
+                        _ => all_have_open(&last, rows),
+                    };
+                    assert!(kept, "{mixture:?} {size:?}");
                 }
             }
         }
@@ -215,8 +238,19 @@ mod tests {
     }
 
     #[test]
+    fn cancel_match_has_no_orders() {
+        for (customers, rows, parts) in [(1, 10, 100), (1, 31, 33), (16, 31, 3), (256, 31, 1)] {
+            let list = Mixture::CancelMatch.prepare(size(customers, rows));
+            assert_eq!(list.len(), 2_000);
+            assert_eq!(count(&list, 6, Answer::Ok), 1_000);
+            assert_eq!(count(&list, 7, Answer::Ok), 1_000);
+            assert_eq!(list.parts.len(), parts, "{customers} {rows}");
+        }
+    }
+
+    #[test]
     fn rows_are_varied_where_a_desk_is_read() {
         let lines = Mixture::ALL.map(|mixture| mixture.sizes().len());
-        assert_eq!(lines, [13, 13, 13, 9, 13]);
+        assert_eq!(lines, [13, 13, 13, 11, 9, 13]);
     }
 }

@@ -33,6 +33,8 @@ pub struct Writer {
     cancels: usize,
     /// Each customer's open orders.
     open: Vec<Vec<Order>>,
+    /// Those that were open when the list began.
+    open_at_start: Vec<Vec<Order>>,
     /// How many of each customer's orders were cancelled in this minute.
     cancelled: Vec<usize>,
 }
@@ -48,6 +50,7 @@ impl Writer {
             number: 0,
             cancels: 0,
             open: vec![Vec::new(); size.customers as usize],
+            open_at_start: Vec::new(),
             cancelled: vec![0; size.customers as usize],
         }
     }
@@ -70,6 +73,13 @@ impl Writer {
     /// What was added so far only leads to the start of what is timed.
     pub fn begin(&mut self) {
         self.recorder.begin();
+        self.open_at_start.clone_from(&self.open);
+    }
+
+    /// On the desks as they were at the start.
+    fn begin_again(&mut self) {
+        self.recorder.begin_again();
+        self.open.clone_from(&self.open_at_start);
     }
 
     pub fn len(&self) -> usize {

@@ -19,6 +19,7 @@ impl Writer {
             Mixture::Orders => self.orders(),
             Mixture::PreOpen => self.pre_open(),
             Mixture::Cancels => self.cancels(),
+            Mixture::CancelMatch => self.cancel_match(),
             Mixture::Market => self.market(),
             Mixture::Sessions => self.change_session(),
         }
@@ -77,6 +78,27 @@ impl Writer {
         if self.cancels.is_multiple_of(a_minute) {
             self.next_minute();
         }
+    }
+
+    /// A match of part of a row, and a cancel. No order comes that would remove
+    /// the cancelled rows: a desk keeps its number of rows, ever fewer of them
+    /// open, and after the last one it is set anew.
+    fn cancel_match(&mut self) {
+        if self.open.iter().all(Vec::is_empty) {
+            self.begin_again();
+        }
+        let customer = self.customer_with_open_row();
+        self.match_part(customer);
+        self.cancel(customer);
+    }
+
+    fn customer_with_open_row(&mut self) -> u16 {
+        let first = self.customer();
+        let customers = self.size.customers as u16;
+        (first..customers)
+            .chain(0..first)
+            .find(|&customer| !self.open[usize::from(customer)].is_empty())
+            .expect("a row is open")
     }
 
     /// Seven prices, two clocks and a setup.
