@@ -1,89 +1,81 @@
 //! Times the linked order gate beside the second implementation and prints one
-//! table. It tests nothing.
+//! table. It fails where they differ on what is timed.
 
+mod compare;
+mod implementation;
 mod list;
 mod measure;
 mod mixture;
 mod size;
+mod table;
 mod writer;
 
+use std::env;
 use std::process::ExitCode;
 
+use compare::compare;
+use implementation::Implementation;
 use measure::{REPEATS, measure};
 use mixture::Mixture;
-use size::Size;
+use table::Table;
 
-const MEASURED: &str = "\
-Nanoseconds an event, one call an event, from events prepared beforehand; the
-same list for the linked gate and for the second implementation, which take
-turns. Before each repeat the words are set anew: an open session (pre-open for
-the mixture of that name), prices for every security, so many open rows on every
-desk as the column says. The median of the repeats is shown.
-  order-heavy   of 5 events: an order that leaves a row, an order that is
-                rejected, a match of a whole row, an MP order and the match of all
-                of it; an MP order now and then meets an own one, and then nothing
-                of it is matched
-  pre-open      of 4 events: an order within ten positions of the prior close,
-                which is between two steps for every other security, one further
-                away, which is warned, and after each a match of a whole row
-  cancel-heavy  of 3 events: an order that leaves a row, a match of a part, a
-                cancel; beside them clocks, for about 5 cancels of a customer a
-                minute, but at 31 rows for one: its row fills the desk as long as
-                the cancel is remembered
-  cancel-match  of 2 events: a match of a part, a cancel; cancelled rows stay on
-                the desk, which so keeps as many as it began with; when the last
-                row is cancelled the desks are set anew, and that is not timed
-  market-heavy  of 10 events: 7 prices, 2 clocks, 1 setup; no desk is read
-  session       session changes only; each reads every record
-";
+const MEASURED: &str = include_str!("measured.txt");
 
 fn main() -> ExitCode {
     if cfg!(debug_assertions) {
         eprintln!("built without optimization: use cargo run --release");
     }
-    let asked: Vec<String> = std::env::args().skip(1).collect();
-    if let Some(unknown) = asked.iter().find(|&name| !is_mixture(name)) {
+    let asked: Vec<String> = env::args().skip(1).collect();
+    if let Some(unknown) = asked.iter().find(|&name| Mixture::named(name).is_none()) {
         eprintln!("no mixture is called {unknown}\nusage: bench [MIXTURE ..]");
         return ExitCode::FAILURE;
     }
-    println!("{MEASURED}Repeats: {REPEATS}\n");
-    println!(
-        "{:<14}{:>10}{:>12}{:>6}{:>8}{:>12}{:>12}{:>8}",
-        "mixture", "customers", "securities", "rows", "events", "gate ns", "second ns", "ratio"
-    );
-    for mixture in Mixture::ALL {
-        if !asked.is_empty() && !asked.iter().any(|name| name == mixture.name()) {
-            continue;
-        }
-        for size in mixture.sizes() {
-            if !line(mixture, size) {
-                eprintln!("the two left different words: run checks");
-                return ExitCode::FAILURE;
-            }
+    match print(&asked) {
+        Ok(()) => ExitCode::SUCCESS,
+        Err(message) => {
+            eprintln!("{message}");
+            ExitCode::FAILURE
         }
     }
-    ExitCode::SUCCESS
 }
 
-fn is_mixture(name: &str) -> bool {
-    Mixture::ALL.iter().any(|mixture| mixture.name() == name)
+fn print(asked: &[String]) -> Result<(), String> {
+    let table = Table {
+        implementations: Implementation::ALL.to_vec(),
+    };
+    println!("{MEASURED}Repeats: {REPEATS}\n");
+    println!("{}", table.heading());
+    Mixture::ALL
+        .into_iter()
+        .filter(|mixture| asked.is_empty() || asked.iter().any(|name| name == mixture.name()))
+        .try_for_each(|mixture| print_mixture(&table, mixture))
 }
 
-fn line(mixture: Mixture, size: Size) -> bool {
-    let Size {
-        customers,
-        securities,
-        rows,
-    } = size;
-    let list = mixture.prepare(size);
-    let measured = measure(&list);
-    println!(
-        "{:<14}{customers:>10}{securities:>12}{rows:>6}{:>8}{:>12.1}{:>12.1}{:>8.2}",
-        mixture.name(),
-        list.len(),
-        measured.gate,
-        measured.second,
-        measured.gate / measured.second
-    );
-    measured.alike
+fn print_mixture(table: &Table, mixture: Mixture) -> Result<(), String> {
+    let mut lines = Vec::new();
+    for size in mixture.sizes() {
+        let list = mixture.prepare(size);
+        compare(&list, &table.implementations)
+            .map_err(|difference| format!("{} at {size}: {difference}", mixture.name()))?;
+        let times = measure(&list, &table.implementations, REPEATS);
+        println!("{}", table.line(mixture, size, list.len(), &times));
+        lines.push(times);
+    }
+    if lines.len() > 1 {
+        println!("{}", table.mean(mixture, &lines));
+    }
+    Ok(())
+}
+
+#[cfg(test)]
+mod tests {
+    use super::*;
+
+    #[test]
+    fn every_mixture_is_described() {
+        for mixture in Mixture::ALL {
+            let name = format!("\n  {} ", mixture.name());
+            assert!(MEASURED.contains(&name), "{mixture:?}");
+        }
+    }
 }

@@ -42,6 +42,11 @@ impl Mixture {
         }
     }
 
+    pub fn named(name: &str) -> Option<Mixture> {
+        let mut all = Mixture::ALL.into_iter();
+        all.find(|mixture| mixture.name() == name)
+    }
+
     /// Every number of customers with every number of securities; other numbers
     /// of rows only in a middling and in the largest state.
     pub fn sizes(self) -> Vec<Size> {
@@ -173,7 +178,7 @@ mod tests {
                         continue;
                     }
                     let list = mixture.prepare(size);
-                    assert!(all_have_open(&list.start, rows), "{mixture:?} {size:?}");
+                    assert!(all_have_open(&list.start, rows), "{mixture:?} {size}");
                     let last = steps(&list).last().unwrap().words;
                     let kept = match mixture {
                         // Its cancelled rows stand in their places.
@@ -183,7 +188,7 @@ mod tests {
                         }
                         _ => all_have_open(&last, rows),
                     };
-                    assert!(kept, "{mixture:?} {size:?}");
+                    assert!(kept, "{mixture:?} {size}");
                 }
             }
         }
