@@ -27,6 +27,11 @@ impl Implementation {
         }
     }
 
+    pub fn named(name: &str) -> Option<Implementation> {
+        let mut all = Implementation::ALL.into_iter();
+        all.find(|implementation| implementation.name() == name)
+    }
+
     /// The answer to one event, in the words of the day listing.
     pub fn answer(self, words: &mut [u32], event: &[u8]) -> String {
         match self {

@@ -1,6 +1,7 @@
 //! Times the linked order gate beside the second implementation and prints one
 //! table. It fails where they differ on what is timed.
 
+mod arguments;
 mod compare;
 mod implementation;
 mod list;
@@ -13,24 +14,26 @@ mod writer;
 use std::env;
 use std::process::ExitCode;
 
+use arguments::{Arguments, USAGE};
 use compare::compare;
-use implementation::Implementation;
-use measure::{REPEATS, measure};
+use measure::measure;
 use mixture::Mixture;
 use table::Table;
 
 const MEASURED: &str = include_str!("measured.txt");
 
 fn main() -> ExitCode {
+    let arguments = match Arguments::parse(env::args().skip(1)) {
+        Ok(arguments) => arguments,
+        Err(message) => {
+            eprintln!("{message}\n{USAGE}");
+            return ExitCode::FAILURE;
+        }
+    };
     if cfg!(debug_assertions) {
         eprintln!("built without optimization: use cargo run --release");
     }
-    let asked: Vec<String> = env::args().skip(1).collect();
-    if let Some(unknown) = asked.iter().find(|&name| Mixture::named(name).is_none()) {
-        eprintln!("no mixture is called {unknown}\nusage: bench [MIXTURE ..]");
-        return ExitCode::FAILURE;
-    }
-    match print(&asked) {
+    match print(&arguments) {
         Ok(()) => ExitCode::SUCCESS,
         Err(message) => {
             eprintln!("{message}");
@@ -39,25 +42,24 @@ fn main() -> ExitCode {
     }
 }
 
-fn print(asked: &[String]) -> Result<(), String> {
+fn print(arguments: &Arguments) -> Result<(), String> {
     let table = Table {
-        implementations: Implementation::ALL.to_vec(),
+        implementations: arguments.implementations.clone(),
     };
-    println!("{MEASURED}Repeats: {REPEATS}\n");
+    println!("{MEASURED}Repeats: {}\n", arguments.repeats);
     println!("{}", table.heading());
-    Mixture::ALL
-        .into_iter()
-        .filter(|mixture| asked.is_empty() || asked.iter().any(|name| name == mixture.name()))
-        .try_for_each(|mixture| print_mixture(&table, mixture))
+    arguments
+        .mixtures()
+        .try_for_each(|mixture| print_mixture(&table, arguments, mixture))
 }
 
-fn print_mixture(table: &Table, mixture: Mixture) -> Result<(), String> {
+fn print_mixture(table: &Table, arguments: &Arguments, mixture: Mixture) -> Result<(), String> {
     let mut lines = Vec::new();
-    for size in mixture.sizes() {
+    for size in arguments.sizes(mixture) {
         let list = mixture.prepare(size);
         compare(&list, &table.implementations)
             .map_err(|difference| format!("{} at {size}: {difference}", mixture.name()))?;
-        let times = measure(&list, &table.implementations, REPEATS);
+        let times = measure(&list, &table.implementations, arguments.repeats);
         println!("{}", table.line(mixture, size, list.len(), &times));
         lines.push(times);
     }

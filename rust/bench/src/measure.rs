@@ -5,9 +5,6 @@ use std::time::Duration;
 use crate::implementation::Implementation;
 use crate::list::List;
 
-/// Odd, so that there is a median.
-pub const REPEATS: usize = 51;
-
 /// The implementations take turns, so that what else the machine does hits all
 /// of them; who is first changes, so that nothing regular hits one of them
 /// alone.

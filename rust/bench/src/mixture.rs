@@ -77,7 +77,7 @@ impl Mixture {
     }
 
     /// Without rows there is nothing to cancel or to match.
-    fn fits(self, size: Size) -> bool {
+    pub fn fits(self, size: Size) -> bool {
         self != Mixture::CancelMatch || size.rows > 0
     }
 

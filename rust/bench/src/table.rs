@@ -85,4 +85,22 @@ mod tests {
             ]
         );
     }
+
+    #[test]
+    fn one_implementation_has_no_ratio() {
+        let table = Table {
+            implementations: vec![Implementation::Gate],
+        };
+        let size = "1,1,0".parse().unwrap();
+        assert_eq!(
+            [
+                table.heading(),
+                table.line(Mixture::Sessions, size, 20, &[12.34])
+            ],
+            [
+                "mixture       customers securities rows events    gate ns",
+                "session               1          1    0     20       12.3",
+            ]
+        );
+    }
 }
