@@ -9,8 +9,8 @@ usage: bench [--repeats N] [--at CUSTOMERS,SECURITIES,ROWS] [--only NAME] [MIXTU
   --repeats N    time each list so often (51)
   --at C,S,R     one line a mixture, with so many customers (1 to 256), securities
                  (1 to 1024) and open rows on every desk (0 to 31)
-  --only NAME    time only gate or second, and compare nothing, so that it handles
-                 each list N times and no more
+  --only NAME    time only gate, second or tuned, and compare nothing, so that it
+                 handles each list N times and no more
   MIXTURE        order-heavy, pre-open, cancel-heavy, cancel-match, market-heavy
                  or session; without one, all of them";
 
@@ -84,7 +84,7 @@ fn repeats(word: &str) -> Result<usize, String> {
 }
 
 fn implementation(word: &str) -> Result<Implementation, String> {
-    Implementation::named(word).ok_or(format!("{word:?}: expected gate or second"))
+    Implementation::named(word).ok_or(format!("{word:?}: expected gate, second or tuned"))
 }
 
 fn mixture(word: &str) -> Result<Mixture, String> {
@@ -162,7 +162,7 @@ mod tests {
                 "\"many\": expected a number of repeats, 1 or more",
             ),
             ("--only", "--only needs a value"),
-            ("--only first", "\"first\": expected gate or second"),
+            ("--only first", "\"first\": expected gate, second or tuned"),
             ("--at", "--at needs a value"),
         ];
         for (line, message) in expected {

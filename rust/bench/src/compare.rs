@@ -117,8 +117,7 @@ mod tests {
 
     #[test]
     fn an_answer_that_differs() {
-        let is_wrong =
-            |which, answer: &str| which == Implementation::Second && answer == "reject V";
+        let is_wrong = |which, answer: &str| which == Implementation::Tuned && answer == "reject V";
         let difference = compare_by(
             &list(Mixture::Orders),
             &Implementation::ALL,
@@ -132,7 +131,7 @@ mod tests {
         );
         let message = difference.unwrap_err().to_string();
         assert!(message.starts_with("answer to event "), "{message}");
-        let end = " of part 0: gate reject V, second accept";
+        let end = " of part 0: gate reject V, tuned accept";
         assert!(message.ends_with(end), "{message}");
     }
 

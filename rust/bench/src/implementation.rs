@@ -3,6 +3,7 @@
 use std::hint::black_box;
 use std::time::{Duration, Instant};
 
+use bench::tuned;
 use guvontsira::{Answer, library};
 use second::gate;
 
@@ -12,18 +13,25 @@ use crate::list::{List, Part};
 pub enum Implementation {
     /// The proved gate, linked.
     Gate,
-    /// Written from the papers alone.
+    /// Written from the papers alone, to be read.
     Second,
+    /// Written to be fast.
+    Tuned,
 }
 
 impl Implementation {
     /// The gate first: the others are compared with it.
-    pub const ALL: [Implementation; 2] = [Implementation::Gate, Implementation::Second];
+    pub const ALL: [Implementation; 3] = [
+        Implementation::Gate,
+        Implementation::Second,
+        Implementation::Tuned,
+    ];
 
     pub fn name(self) -> &'static str {
         match self {
             Implementation::Gate => "gate",
             Implementation::Second => "second",
+            Implementation::Tuned => "tuned",
         }
     }
 
@@ -37,6 +45,7 @@ impl Implementation {
         match self {
             Implementation::Gate => listed(library::handle(words, event)),
             Implementation::Second => gate::handle(words, event).to_string(),
+            Implementation::Tuned => listed(tuned::handle(words, event)),
         }
     }
 
@@ -52,6 +61,7 @@ impl Implementation {
             total += match self {
                 Implementation::Gate => timed(part, |event| library::handle(words, event)),
                 Implementation::Second => timed(part, |event| gate::handle(words, event)),
+                Implementation::Tuned => timed(part, |event| tuned::handle(words, event)),
             };
         }
         total

@@ -1,5 +1,5 @@
-//! Times the linked order gate beside the second implementation and prints one
-//! table. It fails where they differ on what is timed.
+//! Times the linked order gate beside the second implementation and a tuned one
+//! and prints one table. It fails where they differ on what is timed.
 
 mod arguments;
 mod compare;

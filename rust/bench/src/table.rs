@@ -69,7 +69,7 @@ mod tests {
             implementations: Implementation::ALL.to_vec(),
         };
         let size = "16,64,10".parse().unwrap();
-        let lines = [vec![100.0, 200.0], vec![400.0, 200.0]];
+        let lines = [vec![100.0, 200.0, 50.0], vec![400.0, 200.0, 50.0]];
         assert_eq!(
             [
                 table.heading(),
@@ -78,10 +78,10 @@ mod tests {
                 table.mean(Mixture::Orders, &lines),
             ],
             [
-                "mixture       customers securities rows events    gate ns  second ns gate/second",
-                "order-heavy          16         64   10   2003      100.0      200.0        0.50",
-                "order-heavy          16         64   10   2003      400.0      200.0        2.00",
-                "order-heavy          geometric mean of 2 lines      200.0      200.0        1.00",
+                "mixture       customers securities rows events    gate ns  second ns   tuned ns gate/second  gate/tuned",
+                "order-heavy          16         64   10   2003      100.0      200.0       50.0        0.50        2.00",
+                "order-heavy          16         64   10   2003      400.0      200.0       50.0        2.00        8.00",
+                "order-heavy          geometric mean of 2 lines      200.0      200.0       50.0        1.00        4.00",
             ]
         );
     }
@@ -89,7 +89,7 @@ mod tests {
     #[test]
     fn one_implementation_has_no_ratio() {
         let table = Table {
-            implementations: vec![Implementation::Gate],
+            implementations: vec![Implementation::Tuned],
         };
         let size = "1,1,0".parse().unwrap();
         assert_eq!(
@@ -98,7 +98,7 @@ mod tests {
                 table.line(Mixture::Sessions, size, 20, &[12.34])
             ],
             [
-                "mixture       customers securities rows events    gate ns",
+                "mixture       customers securities rows events   tuned ns",
                 "session               1          1    0     20       12.3",
             ]
         );

@@ -43,13 +43,13 @@ fn one_size_of_two_mixtures() {
     assert_eq!(columns.len(), 3);
     assert_eq!(columns[1][..5], ["cancel-match", "2", "3", "31", "2000"]);
     assert_eq!(columns[2][..5], ["session", "2", "3", "31", "20"]);
-    // Two times and a ratio.
-    assert_eq!(columns[1].len(), 8);
+    // Three times and two ratios.
+    assert_eq!(columns[1].len(), 10);
 }
 
 #[test]
 fn one_implementation() {
-    for name in ["gate", "second"] {
+    for name in ["gate", "second", "tuned"] {
         let table = table(&format!("--only {name} --repeats 1 --at 1,1,0"));
         assert!(table[0].ends_with(&format!(" {name} ns")));
         // Without rows there is no cancel-match.
