@@ -1,61 +1,48 @@
-//! Nanoseconds an event, for both implementations over one list.
+//! Nanoseconds an event, for each implementation over one list.
 
-use std::hint::black_box;
-use std::time::{Duration, Instant};
+use std::time::Duration;
 
-use guvontsira::library;
-use second::gate;
-
+use crate::implementation::Implementation;
 use crate::list::List;
 
-/// Odd, so that there is a median.
-pub const REPEATS: usize = 51;
-
-pub struct Measured {
-    pub gate: f64,
-    pub second: f64,
-    /// Both left the same words.
-    pub alike: bool,
-}
-
-/// The two take turns, so that what else the machine does hits both; who is
-/// first changes, so that nothing regular hits one of them alone.
-pub fn measure(list: &List) -> Measured {
-    let mut gate_words = list.start.clone();
-    let mut second_words = list.start.clone();
-    let mut gate_times = Vec::new();
-    let mut second_times = Vec::new();
-    for repeat in 0..REPEATS {
-        for turn in [repeat, repeat + 1] {
-            if turn.is_multiple_of(2) {
-                gate_times.push(timed(list, &mut gate_words, |words, event| {
-                    black_box(library::handle(words, event));
-                }));
-            } else {
-                second_times.push(timed(list, &mut second_words, |words, event| {
-                    black_box(gate::handle(words, event));
-                }));
-            }
+/// The implementations take turns, so that what else the machine does hits all
+/// of them; who is first changes, so that nothing regular hits one of them
+/// alone.
+pub fn measure(list: &List, implementations: &[Implementation], repeats: usize) -> Vec<f64> {
+    let count = implementations.len();
+    let mut words = vec![list.start.clone(); count];
+    let mut times = vec![Vec::with_capacity(repeats); count];
+    for repeat in 0..repeats {
+        for turn in 0..count {
+            let place = (repeat + turn) % count;
+            let time = implementations[place].time(list, &mut words[place]);
+            times[place].push(time);
         }
     }
-    Measured {
-        gate: median(gate_times, list.len()),
-        second: median(second_times, list.len()),
-        alike: gate_words == second_words,
-    }
+    let medians = times.into_iter().map(median);
+    medians
+        .map(|time| time.as_nanos() as f64 / list.len() as f64)
+        .collect()
 }
 
-/// The words are set anew first, and that is not timed.
-fn timed(list: &List, words: &mut [u32], handle: impl Fn(&mut [u32], &[u8])) -> Duration {
-    words.copy_from_slice(&list.start);
-    let begin = Instant::now();
-    for event in list.events() {
-        handle(words, black_box(event));
-    }
-    begin.elapsed()
-}
-
-fn median(mut times: Vec<Duration>, events: usize) -> f64 {
+/// Of an even number the longer of the two in the middle.
+fn median(mut times: Vec<Duration>) -> Duration {
     times.sort_unstable();
-    times[times.len() / 2].as_nanos() as f64 / events as f64
+    times[times.len() / 2]
+}
+
+#[cfg(test)]
+mod tests {
+    use super::*;
+
+    #[test]
+    fn the_time_in_the_middle() {
+        let middle = |times: &[u64]| {
+            let times = times.iter().map(|&time| Duration::from_nanos(time));
+            median(times.collect()).as_nanos()
+        };
+        assert_eq!(middle(&[7]), 7);
+        assert_eq!(middle(&[900, 3, 5]), 5);
+        assert_eq!(middle(&[5, 3, 900, 4]), 5);
+    }
 }

@@ -8,6 +8,7 @@ pub const LAST_PRICE: u32 = 10_000_000;
 pub const POSITIONS: u32 = 51_100;
 
 /// A stretch of the ladder with one step. It ends where the next one begins.
+#[derive(Clone, Copy)]
 struct Band {
     first_price: u32,
     step: u32,
@@ -46,19 +47,42 @@ pub struct Nearest {
 
 /// Paper 02, request 2: "The ladder now answers for each price from 1 to
 /// 10,000,000"; "for others, none".
+// Inlined, so that `position` and `legal` work out only what they answer.
+#[inline(always)]
 pub fn nearest(price: u32) -> Option<Nearest> {
     if price > LAST_PRICE {
         return None;
     }
-    let band = BANDS.iter().rev().find(|band| band.first_price <= price)?;
-    let above = price - band.first_price;
-    Some(Nearest {
-        lower: band.first_position + above / band.step,
+    match BANDS.iter().rposition(|band| band.first_price <= price)? {
+        0 => Some(within::<0>(price)),
+        1 => Some(within::<1>(price)),
+        2 => Some(within::<2>(price)),
+        3 => Some(within::<3>(price)),
+        4 => Some(within::<4>(price)),
+        5 => Some(within::<5>(price)),
+        6 => Some(within::<6>(price)),
+        7 => Some(within::<7>(price)),
+        _ => unreachable!("there are eight bands"),
+    }
+}
+
+/// A price in the band of this place in the table. The place is a constant, so
+/// that the compiler knows the step and makes multiplications of the divisions:
+/// every price in every record that is read comes here.
+fn within<const BAND: usize>(price: u32) -> Nearest {
+    let Band {
+        first_price,
+        step,
+        first_position,
+    } = const { BANDS[BAND] };
+    let above = price - first_price;
+    Nearest {
+        lower: first_position + above / step,
         // Every band is a whole number of its steps long, so that one step past
         // its last position is the next band's first.
-        upper: band.first_position + above.div_ceil(band.step),
-        legal: above.is_multiple_of(band.step),
-    })
+        upper: first_position + above.div_ceil(step),
+        legal: above.is_multiple_of(step),
+    }
 }
 
 /// The position of a legal price; `None` if the price is off the ladder.

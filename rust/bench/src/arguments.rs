@@ -1,0 +1,189 @@
+//! What the program is asked to do.
+
+use crate::implementation::Implementation;
+use crate::mixture::Mixture;
+use crate::size::Size;
+
+pub const USAGE: &str = "\
+usage: bench [--repeats N] [--at CUSTOMERS,SECURITIES,ROWS] [--only NAME] [MIXTURE ..]
+  --repeats N    time each list so often (51)
+  --at C,S,R     one line a mixture, with so many customers (1 to 256), securities
+                 (1 to 1024) and open rows on every desk (0 to 31)
+  --only NAME    time only gate, second or tuned, and compare nothing, so that it
+                 handles each list N times and no more
+  MIXTURE        order-heavy, pre-open, cancel-heavy, cancel-match, market-heavy
+                 or session; without one, all of them";
+
+/// Odd, so that there is a median.
+const REPEATS: usize = 51;
+
+#[derive(Clone, Debug, PartialEq, Eq)]
+pub struct Arguments {
+    pub repeats: usize,
+    pub implementations: Vec<Implementation>,
+    at: Option<Size>,
+    mixtures: Vec<Mixture>,
+}
+
+impl Arguments {
+    pub fn parse(words: impl IntoIterator<Item = String>) -> Result<Arguments, String> {
+        let mut arguments = Arguments {
+            repeats: REPEATS,
+            implementations: Implementation::ALL.to_vec(),
+            at: None,
+            mixtures: Vec::new(),
+        };
+        let mut words = words.into_iter();
+        while let Some(word) = words.next() {
+            let mut value = || words.next().ok_or(format!("{word} needs a value"));
+            match word.as_str() {
+                "--repeats" => arguments.repeats = repeats(&value()?)?,
+                "--at" => arguments.at = Some(value()?.parse()?),
+                "--only" => arguments.implementations = vec![implementation(&value()?)?],
+                _ if word.starts_with('-') => return Err(format!("unknown argument {word:?}")),
+                _ => arguments.mixtures.push(mixture(&word)?),
+            }
+        }
+        arguments.check_sizes()?;
+        Ok(arguments)
+    }
+
+    fn check_sizes(&self) -> Result<(), String> {
+        let Some(size) = self.at else {
+            return Ok(());
+        };
+        match self.mixtures.iter().find(|mixture| !mixture.fits(size)) {
+            Some(mixture) => Err(format!("{} needs open rows", mixture.name())),
+            None => Ok(()),
+        }
+    }
+
+    /// The mixtures asked for, in the order of the table.
+    pub fn mixtures(&self) -> impl Iterator<Item = Mixture> {
+        let is_asked = |mixture: &Mixture| self.mixtures.contains(mixture);
+        Mixture::ALL
+            .into_iter()
+            .filter(move |mixture| self.mixtures.is_empty() || is_asked(mixture))
+    }
+
+    /// The sizes at which a mixture is asked for.
+    pub fn sizes(&self, mixture: Mixture) -> Vec<Size> {
+        match self.at {
+            Some(size) if mixture.fits(size) => vec![size],
+            Some(_) => Vec::new(),
+            None => mixture.sizes(),
+        }
+    }
+}
+
+fn repeats(word: &str) -> Result<usize, String> {
+    match word.parse() {
+        Ok(repeats) if repeats > 0 => Ok(repeats),
+        _ => Err(format!("{word:?}: expected a number of repeats, 1 or more")),
+    }
+}
+
+fn implementation(word: &str) -> Result<Implementation, String> {
+    Implementation::named(word).ok_or(format!("{word:?}: expected gate, second or tuned"))
+}
+
+fn mixture(word: &str) -> Result<Mixture, String> {
+    Mixture::named(word).ok_or(format!("no mixture is called {word:?}"))
+}
+
+#[cfg(test)]
+mod tests {
+    use super::*;
+
+    fn parse(line: &str) -> Result<Arguments, String> {
+        Arguments::parse(line.split_whitespace().map(String::from))
+    }
+
+    #[test]
+    fn without_arguments_everything() {
+        let arguments = parse("").unwrap();
+        assert_eq!(arguments.repeats, 51);
+        assert_eq!(arguments.implementations, Implementation::ALL);
+        assert!(arguments.mixtures().eq(Mixture::ALL));
+        assert_eq!(arguments.sizes(Mixture::Orders), Mixture::Orders.sizes());
+    }
+
+    #[test]
+    fn some_lines() {
+        let arguments = parse("session --at 16,64,31 --repeats 5 order-heavy --only gate").unwrap();
+        assert_eq!(arguments.repeats, 5);
+        assert_eq!(arguments.implementations, [Implementation::Gate]);
+        assert!(
+            arguments
+                .mixtures()
+                .eq([Mixture::Orders, Mixture::Sessions])
+        );
+        let size = Size {
+            customers: 16,
+            securities: 64,
+            rows: 31,
+        };
+        assert_eq!(arguments.sizes(Mixture::Sessions), [size]);
+    }
+
+    #[test]
+    fn a_mixture_that_the_size_leaves_nothing_of() {
+        let arguments = parse("--at 1,1,0").unwrap();
+        assert_eq!(arguments.sizes(Mixture::CancelMatch), []);
+        assert_eq!(arguments.sizes(Mixture::Cancels).len(), 1);
+        assert_eq!(
+            parse("cancel-match --at 1,1,0").unwrap_err(),
+            "cancel-match needs open rows"
+        );
+    }
+
+    #[test]
+    fn usage_names_every_mixture_and_implementation() {
+        for mixture in Mixture::ALL {
+            assert!(USAGE.contains(mixture.name()), "{mixture:?}");
+        }
+        for implementation in Implementation::ALL {
+            assert!(USAGE.contains(implementation.name()), "{implementation:?}");
+        }
+    }
+
+    #[test]
+    fn errors() {
+        let expected = [
+            ("orders", "no mixture is called \"orders\""),
+            ("--fast", "unknown argument \"--fast\""),
+            ("--repeats", "--repeats needs a value"),
+            (
+                "--repeats 0",
+                "\"0\": expected a number of repeats, 1 or more",
+            ),
+            (
+                "--repeats many",
+                "\"many\": expected a number of repeats, 1 or more",
+            ),
+            ("--only", "--only needs a value"),
+            ("--only first", "\"first\": expected gate, second or tuned"),
+            ("--at", "--at needs a value"),
+        ];
+        for (line, message) in expected {
+            assert_eq!(parse(line).unwrap_err(), message);
+        }
+        for size in [
+            "16",
+            "16,64",
+            "16,64,10,1",
+            "0,64,10",
+            "257,64,10",
+            "16,0,10",
+            "16,1025,10",
+            "16,64,32",
+            "16,64,-1",
+            "16,,10",
+            "many,64,10",
+        ] {
+            let message = parse(&format!("--at {size}")).unwrap_err();
+            let expected = format!("{size:?}: expected customers, securities and rows");
+            assert!(message.starts_with(&expected), "{message}");
+        }
+    }
+}

@@ -1,0 +1,58 @@
+//! The program with arguments, good and bad.
+
+use std::process::{Command, Output};
+
+fn bench(line: &str) -> Output {
+    Command::new(env!("CARGO_BIN_EXE_bench"))
+        .args(line.split_whitespace())
+        .output()
+        .unwrap()
+}
+
+/// The table without what stands above it.
+fn table(line: &str) -> Vec<String> {
+    let output = bench(line);
+    assert!(output.status.success(), "{line}");
+    let text = String::from_utf8(output.stdout).unwrap();
+    let lines = text.lines().map(String::from);
+    lines
+        .skip_while(|line| !line.starts_with("mixture "))
+        .collect()
+}
+
+#[test]
+fn bad_arguments_fail_with_the_usage() {
+    for line in ["orders", "--at 16,64", "--repeats 0", "--only it", "--only"] {
+        let output = bench(line);
+        assert_eq!(output.status.code(), Some(1), "{line}");
+        assert!(output.stdout.is_empty(), "{line}");
+        let error = String::from_utf8(output.stderr).unwrap();
+        let (message, usage) = error.split_once('\n').unwrap();
+        assert!(!message.is_empty(), "{line}");
+        assert!(usage.starts_with("usage: bench "), "{line}");
+    }
+}
+
+#[test]
+fn one_size_of_two_mixtures() {
+    let table = table("--repeats 1 --at 2,3,31 session cancel-match");
+    let columns: Vec<Vec<&str>> = table
+        .iter()
+        .map(|line| line.split_whitespace().collect())
+        .collect();
+    assert_eq!(columns.len(), 3);
+    assert_eq!(columns[1][..5], ["cancel-match", "2", "3", "31", "2000"]);
+    assert_eq!(columns[2][..5], ["session", "2", "3", "31", "20"]);
+    // Three times and two ratios.
+    assert_eq!(columns[1].len(), 10);
+}
+
+#[test]
+fn one_implementation() {
+    for name in ["gate", "second", "tuned"] {
+        let table = table(&format!("--only {name} --repeats 1 --at 1,1,0"));
+        assert!(table[0].ends_with(&format!(" {name} ns")));
+        // Without rows there is no cancel-match.
+        assert_eq!(table.len(), 1 + 5);
+    }
+}
