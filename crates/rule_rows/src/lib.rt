@@ -1,7 +1,9 @@
 // Rules W and P: an order against the customer's own rows.
+ghost use mathlib.Core.Bool.{true};
 ghost use mathlib.Core.Path.{_≡_};
 ghost use Prim.Native.Nat.{_*_};
 ghost use lib.Dec.{leb};
+ghost use Rattle.definitions.specs.Sound.{markedFirst};
 ghost use Rattle.definitions.specs.Rules.{ownOpposite, wouldTradeAtProjected, wouldTrade, tradesWithOwn, ruleW, reenters, ruleP};
 ghost use Rattle.rule_rows.specs.Covered.{coveredByP};
 use definitions::Desk;
@@ -75,20 +77,28 @@ fn trades_with_own(session: u32, p: Prices, o: Order, r: Row) -> bool
     would_trade(session, p, o, r)
 }
 
+// Here and in rule_p the loop ends at the first row that is met, and at the first free row: "marked rows stand first".
 pub fn rule_w(m: MarketView, d: Desk, o: Order) -> bool
+    requires { ⌜ markedFirst (d .rows) ≡ true ⌝ }
     ensures { λ r. ⌜ r ≡ ruleW (record { market = m; desk = d }) o ⌝ }
 {
+    if o.channel != ONLINE {
+        return false;
+    }
     let session = m.session;
     let p = prices_on(m.security, o.board);
-    let mut found = false;
     let mut i: usize = 0;
     while i < DESK_ROWS {
         let r = d.rows[i];
-        let now = trades_with_own(session, p, o, r);
-        found = found | now;
+        if r.mark == 0 {
+            return false;
+        }
+        if trades_with_own(session, p, o, r) {
+            return true;
+        }
         i += 1;
     }
-    (o.channel == ONLINE) & found
+    false
 }
 
 // "twice the new volume being at least the cancelled volume", in 64 bits, where no volume makes the product wrap.
@@ -123,16 +133,23 @@ pub fn covered_by_p(session: u32, o: Order) -> bool
 }
 
 pub fn rule_p(m: MarketView, d: Desk, o: Order) -> bool
+    requires { ⌜ markedFirst (d .rows) ≡ true ⌝ }
     ensures { λ r. ⌜ r ≡ ruleP (record { market = m; desk = d }) o ⌝ }
 {
+    if !covered_by_p(m.session, o) {
+        return false;
+    }
     let clock = m.clock;
-    let mut found = false;
     let mut i: usize = 0;
     while i < DESK_ROWS {
-        let r = d.rows[i];
-        let now = reenters(clock, o, r);
-        found = found | now;
+        let row = d.rows[i];
+        if row.mark == 0 {
+            return false;
+        }
+        if reenters(clock, o, row) {
+            return true;
+        }
         i += 1;
     }
-    covered_by_p(m.session, o) & found
+    false
 }

@@ -1,7 +1,7 @@
 // Paper 01, "Verdicts, first that applies". A rule is given what it may see: the market's view, one desk and one order, no customer's number and no words.
 ghost use mathlib.Core.Bool.{true};
 ghost use mathlib.Core.Path.{_≡_};
-ghost use Rattle.definitions.specs.Sound.{pricedAs, soundSecurity};
+ghost use Rattle.definitions.specs.Sound.{markedFirst, pricedAs, soundSecurity};
 ghost use Rattle.definitions.specs.Rules.{verdictOf};
 use definitions::Desk;
 use definitions::MarketView;
@@ -20,7 +20,7 @@ use rule_rows::rule_w;
 
 // W and P are asked only of an order that they cover (W: "online only"), since each call copies the desk.
 pub fn verdict(m: MarketView, d: Desk, o: Order) -> Verdict
-    requires { ⌜ (soundSecurity (m .security) ≡ true) × (pricedAs (o .«order_type») (o .price) ≡ true) ⌝ }
+    requires { ⌜ (soundSecurity (m .security) ≡ true) × (pricedAs (o .«order_type») (o .price) ≡ true) × (markedFirst (d .rows) ≡ true) ⌝ }
     ensures { λ r. ⌜ r ≡ verdictOf (record { market = m; desk = d }) o ⌝ }
 {
     if rule_s(m, o) {

@@ -3,6 +3,7 @@
 use mathlib.Core.Logic.{⊎-elim}
 use Prim.Native.Nat.{ℕ}
 use lib.ListN.{drop}
+use borrow.Author.Needs.{needs}
 use borrow.Author.Tests.{ne-eqb}
 use Rattle.definitions.specs.Rules.{View}
 use Rattle.definitions.proofs.Tests.{known}
@@ -82,14 +83,14 @@ verdict-spec =
     returns
     (λ c κs. tt)
     returns-2
-    (λ c κs. c .before .before .before .before .pre)
+    (λ c κs. (c .before .before .before .before .pre .0, c .before .before .before .before .pre .1))
     returns-3
     (λ c κs. tt)
     returns-4
-    (λ c κs. tt)
+    (λ c κs. search needs)
     returns-5
     (λ c κs. tt)
-    (λ c κs. tt)
+    (λ c κs. search needs)
     returns-6
     (λ c κs. tt)
     returns-7
