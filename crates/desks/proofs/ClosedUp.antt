@@ -149,10 +149,10 @@ module _ {place : ℕ} {before : Desk} where
           let after-next : suc (i + 1) ≡ i + 1 + 1 = omega arith in
           let tail : drop (i + 1) rows ≡ replicate n freeRow = free-from rows (c .closed) (i + 1) z (ap (λ (r : Row). r .mark) (sym from-rows) ∙ free) in
           let rest : drop (i + 1) left ≡ replicate n freeRow =
-              rest-of rows place (i + 1) (omega (arith, c .from)) (omega (arith, c .whole))
-              ∙ ap (λ l. l ++ (freeRow ∷ [])) (ap (λ (j : ℕ). drop j rows) after-next ∙ sym (drop-drop 1 (i + 1) rows) ∙ ap (drop 1) tail ∙ drop-free n 1)
-              ∙ replicate-append-replicate (n - 1) 1 freeRow
-              ∙ ap (λ (m : ℕ). replicate m freeRow) one in
+          rest-of rows place (i + 1) (omega (arith, c .from)) (omega (arith, c .whole))
+          ∙ ap (λ l. l ++ (freeRow ∷ [])) (ap (λ (j : ℕ). drop j rows) after-next ∙ sym (drop-drop 1 (i + 1) rows) ∙ ap (drop 1) tail ∙ drop-free n 1)
+          ∙ replicate-append-replicate (n - 1) 1 freeRow
+          ∙ ap (λ (m : ℕ). replicate m freeRow) one in
           put z moved ∙ ap (λ l. withRows l before) (ap (λ l. take (i + 1) left ++ l) (tail ∙ sym rest) ∙ take-append-drop (i + 1) left)
 
     pub removing-end : deskRows ≤ i + 1 → (z : Row) {r : Row} → r ≡ freeRow → withRows (set (after .rows) i r) after ≡ withRows left before
@@ -217,18 +217,17 @@ module _ {clock : ℕ} {before : Desk} where
         let n = deskRows - i in
         let split : front ++ replicate n freeRow ≡ rows = ap (λ l. front ++ l) (sym tail) ∙ take-append-drop i rows in
         let same : map (expiredRow clock) rows ≡ rows =
-            ap (map (expiredRow clock)) (sym split)
-            ∙ map-append (expiredRow clock) front (replicate n freeRow)
-            ∙ ap₂ (λ (a b : List Row). a ++ b) (map-same (expiredRow clock) (openOrInMinute clock) (live-stays clock) front (c .live)) (map-free (expiredRow clock) refl n)
-            ∙ split in
+        ap (map (expiredRow clock)) (sym split)
+        ∙ map-append (expiredRow clock) front (replicate n freeRow)
+        ∙ ap₂ (λ (a b : List Row). a ++ b) (map-same (expiredRow clock) (openOrInMinute clock) (live-stays clock) front (c .live)) (map-free (expiredRow clock) refl n)
+        ∙ split in
         let marks : count marked rows ≡ i =
-            ap (count marked) (sym split)
-            ∙ count-append marked front (replicate n freeRow)
-            ∙ omega (arith, count-all marked front (all-weaken (openOrInMinute clock) marked (live-marked clock) front (c .live)), length-take-le i rows (omega (arith, c .whole, c .within)), count-replicate marked n freeRow refl) in
+        ap (count marked) (sym split)
+        ∙ count-append marked front (replicate n freeRow)
+        ∙ omega (arith, count-all marked front (all-weaken (openOrInMinute clock) marked (live-marked clock) front (c .live)), length-take-le i rows (omega (arith, c .whole, c .within)), count-replicate marked n freeRow refl) in
         ap (λ (x : Desk). withRows (set (x .rows) i r) x) (c .desk)
         ∙ ap (λ (k : ℕ). withRows (set rows k r) before) (sym marks)
         ∙ ap (λ l. withRows (addedLast r l) before) (sym (ap closeUp same ∙ c .closed))
-
 
     pub placing-free : i < deskRows → (z : Row) → getD (after .rows) i z .mark ≡ freeMark → (r : Row)
         → withRows (set (after .rows) i r) after ≡ withRows (addedLast r (edited (expiredRow clock) (before .rows))) before

@@ -16,6 +16,6 @@ pub fn handle(words: &mut [u32], k: u32, x: Cancel) -> Answer
         return Answer::Refused(10);
     }
     let left = desk_rows::cancelled_row(x.number, h.clock, found.row);
-    row_change::change_row(words, k, found.place, left);
+    one_row::change_row(words, k, found.place, left);
     Answer::Ok
 }

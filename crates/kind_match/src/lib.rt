@@ -21,6 +21,6 @@ pub fn handle(words: &mut [u32], k: u32, x: Match) -> Answer
         return Answer::Refused(11);
     }
     let left = desk_rows::matched_row(x.number, x.volume, found.row);
-    row_change::change_row(words, k, found.place, left);
+    one_row::change_row(words, k, found.place, left);
     Answer::Ok
 }

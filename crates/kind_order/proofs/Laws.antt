@@ -1,105 +1,142 @@
--- The exits of an order's function, over plain variables: h, s and d are the header, the security and the desk that the code took out of the words.
+-- The exits of an order's function, over plain variables: h, s and d are the header, the security and the desk that the code took out of the words, and at is
+-- where the search for its number ended.
 -- Assumes nothing.
 use mathlib.Core.Bool.{Bool, true, false, cond, _&&_, not}
-use mathlib.Core.List.{List}
+use mathlib.Core.List.{List, [], _∷_}
 use mathlib.Core.Path.{_≡_, refl, ap, ap₂, sym, _∙_}
-use Prim.Native.Nat.{ℕ}
+use Prim.Native.Nat.{ℕ, zero, suc, _<_}
+use native.Mathlib.Omega.{arith}
 use lib.Dec.{eqb}
+use lib.ListN.{length, getD}
 use borrow.Author.Tests.{not-true, not-false}
 use Rattle.definitions.specs.declared.Header.{Header}
 use Rattle.definitions.specs.declared.Security.{Security}
+use Rattle.definitions.specs.declared.Row.{Row}
 use Rattle.definitions.specs.declared.Desk.{Desk}
 use Rattle.definitions.specs.declared.Order.{Order}
 use Rattle.definitions.specs.declared.Event.{Event}
 use Rattle.definitions.specs.declared.Event.the-variants as event
 use Rattle.definitions.specs.declared.Verdict.{Verdict}
-use Rattle.definitions.specs.declared.Counter.{Counter}
-use Rattle.definitions.specs.declared.Counter.the-variants as counts
 use Rattle.definitions.specs.declared.Answer.the-variants as answer
 use Rattle.definitions.specs.Codes.{deskRows}
 use Rattle.definitions.specs.Lists.{any, count, firstMet}
 use Rattle.definitions.specs.State.{headerOf, securityAt, deskAt, putDesk}
-use Rattle.definitions.specs.Sound.{soundSecurity, pricedAs}
-use Rattle.definitions.specs.Desks.{openOrInMinute, added, counterOf, countedAs, counted, takesRow, ordered}
+use Rattle.definitions.specs.Sound.{soundSecurity, pricedAs, marked, markedFirst}
+use Rattle.definitions.specs.Desks.{freeRow, openOrInMinute, closeUp, added, counted, takesRow, ordered}
 use Rattle.definitions.specs.Rules.{View, verdictOf}
 use Rattle.definitions.specs.Refusals.{holdsNumber, numberTaken, deskFull}
 use Rattle.definitions.specs.Gate.{resultOf, viewAt, soundSecurityAt, soundDeskAt, recordsSound, perform}
-use Rattle.definitions.proofs.Tests.{and-parts}
+use Rattle.definitions.proofs.Tests.{never, and-parts, and-whole, or-first, or-second}
+use Rattle.state_records.specs.declared.search.RowAt.{RowAt}
+use Rattle.state_records.specs.Search.{rowWith}
+use Rattle.state_records.proofs.SearchLaws.{found-most, found-there, found-numbered}
+use Rattle.desks.proofs.Laws.{none-other}
+use Rattle.desks.proofs.ClosedUp.{live-marked}
 use Rattle.kind_contract.specs.First.{Ready, laterRefusal, laterOutcome}
-use Rattle.kind_contract.proofs.Laws.{unmet-first, later-refused, later-done}
+use Rattle.kind_contract.proofs.Laws.{unmet-first, later-refused, later-done, desk-sound, desk-closed}
 use Rattle.kind_contract.proofs.Done.{Left}
+use Rattle.one_row.proofs.OneRow.{whole, row-asked, other-not-held}
 
--- counters and rows change apart
-added-counted : (v : Verdict) (clock : ℕ) (o : Order) (d : Desk) → added clock o (counted v d) ≡ counted v (added clock o d)
-unfolding added counted
-added-counted v clock o d = go (counterOf v)
-  where
-    go : (t : Counter) → added clock o (countedAs t d) ≡ countedAs t (added clock o d)
-    go counts.Accepted = refl
-    go counts.Warned = refl
-    go counts.Rejected = refl
+-- one row is not of a kind: not all are
+other-at : (p : Row → Bool) (rows : List Row) (i : ℕ) (z : Row) → i < length rows → p (getD rows i z) ≡ false → any (λ r. not (p r)) rows ≡ true
+unfolding any
+other-at p [] i z h other = absurd (omega (arith, h))
+other-at p (r ∷ rs) zero z h other = or-first (any (λ x. not (p x)) rs) (ap not other)
+other-at p (r ∷ rs) (suc i) z h other = or-second (not (p r)) (other-at p rs i z (omega (arith, h)) other)
 
-module _ (w : List ℕ) (k : ℕ) (o : Order) {h : Header} {s : Security} {d : Desk} (eh : h ≡ headerOf w) (es : s ≡ securityAt w (o .security)) (ed : d ≡ deskAt w k) where
+module _ (w : List ℕ) (k : ℕ) (o : Order) (ready : Ready w (event.Order k o)) {h : Header} {s : Security} {at : RowAt} (eh : h ≡ headerOf w) (es : s ≡ securityAt w (o .security))
+    (ea : at ≡ rowWith (o .number) (deskAt w k .rows)) where
   abbrev e : Event
   e = event.Order k o
 
-  -- the rules are given a sound security and a price that goes with the order's type
-  pub rules-asked : Ready w e → (soundSecurity s ≡ true) × (pricedAs (o .«order_type») (o .price) ≡ true)
-  rules-asked ready =
-      let sound = not-false (recordsSound w e) (unmet-first w e ready 8) in
-      (rw es (and-parts (soundSecurityAt w (o .security)) (soundDeskAt w k) sound .0), not-false (pricedAs (o .«order_type») (o .price)) (unmet-first w e ready 6))
+  read : not (recordsSound w e) ≡ false
+  read = unmet-first w e ready 8
 
-  abbrev viewBy : Header → Security → Desk → View
-  viewBy a x y = record { market = record { session = a .session; clock = a .clock; security = x }; desk = y }
+  abbrev view : View
+  view = viewAt w (o .security) k
 
-  -- what the rules are given is what the definition's order meets
-  view-same : viewBy h s d ≡ viewAt w (o .security) k
-  view-same = ap₂ (λ (a : Header) (x : Security). viewBy a x d) eh es ∙ ap (viewBy (headerOf w) (securityAt w (o .security))) ed
+  -- condition 9 is asked of the row that has the number, or would
+  taken-same : {t : Bool} → t ≡ holdsNumber (h .clock) (o .number) (at .row) → numberTaken view o ≡ t
+  taken-same et =
+      row-asked w e read k refl (o .number) ea (holdsNumber (headerOf w .clock) (o .number)) (other-not-held (headerOf w .clock) (o .number))
+      (et ∙ ap (λ (a : Header). holdsNumber (a .clock) (o .number) (at .row)) eh)
 
-  taken-same : {t : Bool} → t ≡ any (holdsNumber (h .clock) (o .number)) (d .rows) → numberTaken (viewAt w (o .security) k) o ≡ t
-  taken-same et = ap (λ (v : View). numberTaken v o) (sym view-same) ∙ sym et
-
-  pub order-9 : {t : Bool} → t ≡ any (holdsNumber (h .clock) (o .number)) (d .rows) → t ≡ true → _≡_ {A = Left} (answer.Refused 9, w) (resultOf w (laterOutcome w e))
+  pub order-9 : {t : Bool} → t ≡ holdsNumber (h .clock) (o .number) (at .row) → t ≡ true → _≡_ {A = Left} (answer.Refused 9, w) (resultOf w (laterOutcome w e))
   unfolding laterRefusal firstMet
   order-9 et found = later-refused w e 9 refl (rw (taken-same et, found))
 
-  -- past condition 9, with a verdict
-  module _ {t : Bool} (et : t ≡ any (holdsNumber (h .clock) (o .number)) (d .rows)) (free : t ≡ false) {v : Verdict} (ev : v ≡ verdictOf (viewBy h s d) o)
-      {r : Bool} (er : r ≡ takesRow v) where
-    full-same : (f : Bool) → f ≡ eqb (count (openOrInMinute (h .clock)) (d .rows)) deskRows → deskFull (viewAt w (o .security) k) o ≡ (r && f)
-    full-same f ef =
-        ap (λ (x : View). deskFull x o) (sym view-same)
-        ∙ ap (λ (x : Verdict). takesRow x && eqb (count (openOrInMinute (h .clock)) (d .rows)) deskRows) (sym ev)
-        ∙ ap₂ (λ (a b : Bool). a && b) (sym er) (sym ef)
+  -- past condition 9, with the desk taken out
+  module _ {t : Bool} (et : t ≡ holdsNumber (h .clock) (o .number) (at .row)) (new : t ≡ false) {d : Desk} (ed : d ≡ deskAt w k) where
+    pub rules-asked : (soundSecurity s ≡ true) × (pricedAs (o .«order_type») (o .price) ≡ true) × (markedFirst (d .rows) ≡ true)
+    rules-asked =
+        let sound = not-false (recordsSound w e) read in (
+          rw es (and-parts (soundSecurityAt w (o .security)) (soundDeskAt w k) sound .0),
+          not-false (pricedAs (o .«order_type») (o .price)) (unmet-first w e ready 6),
+          rw ed (desk-sound w e read k refl .first),
+        )
 
-    done : laterRefusal w e ≡ 0 → {y : Desk} {after : List ℕ} → y ≡ ordered v (h .clock) o d → after ≡ putDesk w k y → _≡_ {A = Left} (answer.Verdict v, after) (resultOf w (laterOutcome w e))
-    unfolding perform
-    done none ey ew =
-        later-done w e none
-        (ap {B = Left} (λ (x : List ℕ). (answer.Verdict v, x)) (ew ∙ ap (putDesk w k) (ey ∙ ap₂ (λ (a : Header) (x : Desk). ordered v (a .clock) o x) eh ed))
-        ∙ ap {B = Left} (λ (x : Verdict). (answer.Verdict x, putDesk w k (ordered x (headerOf w .clock) o (deskAt w k)))) (ev ∙ ap (λ (x : View). verdictOf x o) view-same))
+    pub added-asked : closeUp (d .rows) ≡ d .rows
+    added-asked = rw ed (desk-closed w e read k refl)
 
-    -- an order that takes no row: its counter rises
-    pub order-counted : not r ≡ true → {y : Desk} {after : List ℕ} → y ≡ counted v d → after ≡ putDesk w k y → _≡_ {A = Left} (answer.Verdict v, after) (resultOf w (laterOutcome w e))
-    unfolding laterRefusal firstMet ordered
-    order-counted no-row ey ew =
-        let out : r ≡ false = not-true r no-row in
-        done (rw (taken-same et, free, full-same (eqb (count (openOrInMinute (h .clock)) (d .rows)) deskRows) refl, out)) (ey ∙ ap (λ (b : Bool). counted v (cond b (added (h .clock) o d) d)) (sym out ∙ er)) ew
+    abbrev viewBy : Header → Security → Desk → View
+    viewBy a x y = record { market = record { session = a .session; clock = a .clock; security = x }; desk = y }
 
-    -- one that would take a row of a full desk
-    pub order-12 : not r ≡ false → {f : Bool} → f ≡ eqb (count (openOrInMinute (h .clock)) (d .rows)) deskRows → f ≡ true → _≡_ {A = Left} (answer.Refused 12, w) (resultOf w (laterOutcome w e))
-    unfolding laterRefusal firstMet
-    order-12 row {f} ef full = later-refused w e 12 refl (rw (taken-same et, free, full-same f ef, not-false r row, full))
+    -- what the rules are given is what the definition's order meets
+    view-same : viewBy h s d ≡ view
+    view-same = ap₂ (λ (a : Header) (x : Security). viewBy a x d) eh es ∙ ap (viewBy (headerOf w) (securityAt w (o .security))) ed
 
-    -- one that takes a row
-    pub order-added : not r ≡ false → {f : Bool} → f ≡ eqb (count (openOrInMinute (h .clock)) (d .rows)) deskRows → f ≡ false → {x y : Desk} {after : List ℕ}
-        → x ≡ counted v d → y ≡ added (h .clock) o x → after ≡ putDesk w k y → _≡_ {A = Left} (answer.Verdict v, after) (resultOf w (laterOutcome w e))
-    unfolding laterRefusal firstMet ordered
-    order-added row {f} ef room ex ey ew =
-        let has : r ≡ true = not-false r row in
-        done (rw (taken-same et, free, full-same f ef, has, room))
-        (ey
-        ∙ ap (added (h .clock) o) ex
-        ∙ added-counted v (h .clock) o d
-        ∙ ap (λ (b : Bool). counted v (cond b (added (h .clock) o d) d)) (sym has ∙ er))
-        ew
+    abbrev isFull : Bool
+    isFull = eqb (count (openOrInMinute (h .clock)) (d .rows)) deskRows
+
+    -- a search that ends at a row ends at a free one, or at one cancelled more than a minute ago
+    pub room-left : (at .place ≡ deskRows → ⊥) → isFull ≡ false
+    room-left elsewhere =
+        let rows = deskAt w k .rows in
+        let below : at .place < length rows = omega (arith, found-most (o .number) rows ea, whole w k) in
+        let row : getD rows (at .place) freeRow ≡ at .row = found-there (o .number) rows ea below freeRow in
+        let some : any (λ (r : Row). not (openOrInMinute (h .clock) r)) rows ≡ true = other-at (openOrInMinute (h .clock)) rows (at .place) freeRow below (ap (openOrInMinute (h .clock)) row ∙ gone (openOrInMinute (h .clock) (at .row)) refl) in
+        rw ed (sym (none-other (openOrInMinute (h .clock)) rows (whole w k) (sym some)))
+      where
+        -- a marked row that was found has the number, and none that has it is open or in its minute
+        gone : (live : Bool) → openOrInMinute (h .clock) (at .row) ≡ live → live ≡ false
+        gone false is = refl
+        gone true is =
+            let has = and-parts (marked (at .row)) (eqb (at .row .number) (o .number)) (found-numbered (o .number) (deskAt w k .rows) ea (live-marked (h .clock) (at .row) is)) .1 in
+            never (and-whole is has) (sym et ∙ new)
+
+    -- with a verdict
+    module _ {v : Verdict} (ev : v ≡ verdictOf (viewBy h s d) o) {r : Bool} (er : r ≡ takesRow v) where
+      full-same : deskFull view o ≡ (r && isFull)
+      full-same =
+          ap (λ (x : View). deskFull x o) (sym view-same)
+          ∙ ap (λ (x : Verdict). takesRow x && isFull) (sym ev)
+          ∙ ap (λ (b : Bool). b && isFull) (sym er)
+
+      done : laterRefusal w e ≡ 0 → {y : Desk} {after : List ℕ} → y ≡ ordered v (h .clock) o d → after ≡ putDesk w k y → _≡_ {A = Left} (answer.Verdict v, after) (resultOf w (laterOutcome w e))
+      unfolding perform
+      done none ey ew =
+          later-done w e none
+          (ap {B = Left} (λ (x : List ℕ). (answer.Verdict v, x)) (ew ∙ ap (putDesk w k) (ey ∙ ap₂ (λ (a : Header) (x : Desk). ordered v (a .clock) o x) eh ed))
+          ∙ ap {B = Left} (λ (x : Verdict). (answer.Verdict x, putDesk w k (ordered x (headerOf w .clock) o (deskAt w k)))) (ev ∙ ap (λ (x : View). verdictOf x o) view-same))
+
+      -- an order that takes no row: its counter rises
+      pub order-counted : not r ≡ true → {y : Desk} {after : List ℕ} → y ≡ counted v d → after ≡ putDesk w k y → _≡_ {A = Left} (answer.Verdict v, after) (resultOf w (laterOutcome w e))
+      unfolding laterRefusal firstMet ordered
+      order-counted no-row ey ew =
+          let out : r ≡ false = not-true r no-row in
+          done (rw (taken-same et, new, full-same, out)) (ey ∙ ap (λ (b : Bool). counted v (cond b (added (h .clock) o d) d)) (sym out ∙ er)) ew
+
+      -- one that would take a row of a full desk
+      pub order-12 : not r ≡ false → isFull ≡ true → _≡_ {A = Left} (answer.Refused 12, w) (resultOf w (laterOutcome w e))
+      unfolding laterRefusal firstMet
+      order-12 row full = later-refused w e 12 refl (rw (taken-same et, new, full-same, not-false r row, full))
+
+      -- one that takes a row
+      pub order-added : not r ≡ false → isFull ≡ false → {x y : Desk} {after : List ℕ}
+          → x ≡ added (h .clock) o d → y ≡ counted v x → after ≡ putDesk w k y → _≡_ {A = Left} (answer.Verdict v, after) (resultOf w (laterOutcome w e))
+      unfolding laterRefusal firstMet ordered
+      order-added row room ex ey ew =
+          let has : r ≡ true = not-false r row in
+          done (rw (taken-same et, new, full-same, has, room))
+          (ey ∙ ap (counted v) ex ∙ ap (λ (b : Bool). counted v (cond b (added (h .clock) o d) d)) (sym has ∙ er))
+          ew

@@ -15,6 +15,6 @@ pub fn handle(words: &mut [u32], k: u32, x: Rest) -> Answer
         return Answer::Refused(10);
     }
     let left = desk_rows::rest_row(x.number, x.price, found.row);
-    row_change::change_row(words, k, found.place, left);
+    one_row::change_row(words, k, found.place, left);
     Answer::Ok
 }

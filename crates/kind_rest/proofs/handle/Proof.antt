@@ -17,7 +17,7 @@ use Rattle.definitions.proofs.Tests.{passed, and-parts}
 use Rattle.definitions.proofs.SoundRow.{rest-changes}
 use Rattle.kind_contract.specs.First.{laterRefusal}
 use Rattle.kind_contract.proofs.Laws.{later-refused, unmet-first, desk-fits}
-use Rattle.row_change.proofs.OneRow.{row-asked, row-there, row-done, open-there, other-not-open}
+use Rattle.one_row.proofs.OneRow.{row-asked, row-there, row-done, open-there, other-not-open}
 use Rattle.kind_rest.proofs.handle.Statement.{statement}
 use Rattle.kind_rest.proofs.handle.Tie as tie
 

@@ -47,6 +47,10 @@ open-there number r e = rw (eqb-true (r .mark) openMark (and-parts (isOpen r) (e
 pub other-not-held : (clock number : ℕ) (r : Row) → numbered number r ≡ false → holdsNumber clock number r ≡ false
 other-not-held clock number r = other number r (openOrInMinute clock r) (live-marked clock r)
 
+pub whole : (w : List ℕ) (k : ℕ) → length (deskAt w k .rows) ≡ deskRows
+unfolding deskAt deskOf
+whole w k = length-rows deskRows _
+
 module _ (w : List ℕ) (e : Event) (read : not (recordsSound w e) ≡ false) (k : ℕ) (own : customerNamed e ≡ one k) (number : ℕ) {at : RowAt} (ea : at ≡ rowWith number (deskAt w k .rows)) where
   abbrev rows : List Row
   rows = deskAt w k .rows
@@ -55,13 +59,9 @@ module _ (w : List ℕ) (e : Event) (read : not (recordsSound w e) ≡ false) (k
   pub row-asked : (p : Row → Bool) → ((r : Row) → numbered number r ≡ false → p r ≡ false) → {t : Bool} → t ≡ p (at .row) → any p rows ≡ t
   row-asked p other et = found-any number rows ea (desk-sound w e read k own .first) (desk-sound w e read k own .differ) p other ∙ sym et
 
-  whole : length rows ≡ deskRows
-  unfolding deskAt deskOf
-  whole = length-rows deskRows _
-
   -- what `change_row` asks
   pub row-there : marked (at .row) ≡ true → (at .place < deskRows) × (closeUp rows ≡ rows)
-  row-there m = (omega (arith, found-place number rows ea m, whole), desk-closed w e read k own)
+  row-there m = (omega (arith, found-place number rows ea m, whole w k), desk-closed w e read k own)
 
   -- the event changes the row with the number, and no other
   pub row-done : laterRefusal w e ≡ 0 → (f : Row → Row) → ((r : Row) → numbered number r ≡ false → f r ≡ r) → perform w e ≡ done answer.Ok (changeDesk (changed f) k w)

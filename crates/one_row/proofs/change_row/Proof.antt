@@ -1,4 +1,4 @@
--- `row_change::change_row` meets its contract: the desk that is put back is the one that was taken out, with one row changed.
+-- `one_row::change_row` meets its contract: the desk that is put back is the one that was taken out, with one row changed.
 -- Assumes nothing.
 use mathlib.Core.Path.{_≡_, ap, sym, subst, _∙_}
 use borrow.Author.Needs.{needs}
@@ -6,8 +6,8 @@ use Rattle.definitions.specs.declared.Desk.{Desk}
 use Rattle.definitions.specs.State.{putDesk}
 use Rattle.definitions.specs.Desks.{closeUp, withRows}
 use Rattle.desks.specs.Place.{changedAt}
-use Rattle.row_change.proofs.change_row.Statement.{statement}
-use Rattle.row_change.proofs.change_row.Tie as tie
+use Rattle.one_row.proofs.change_row.Statement.{statement}
+use Rattle.one_row.proofs.change_row.Tie as tie
 
 returns : tie.Need-returns
 returns c =

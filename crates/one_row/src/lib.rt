@@ -1,4 +1,4 @@
-// Kinds 6, 7 and 8 change one row of a desk.
+// Kinds 6, 7 and 8 change one row of a desk, the one that they name by its number.
 ghost use mathlib.Core.Path.{_≡_};
 ghost use Prim.Native.Nat.{_+_, _≤_, _<_};
 ghost use lib.ListN.{length};
