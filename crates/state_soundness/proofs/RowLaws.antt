@@ -8,7 +8,7 @@ use Prim.Native.Nat.{ℕ, zero, suc, _+_, _-_, _*_, _≤_, _<_}
 use native.Mathlib.Nat.{zero-add, suc-add}
 use native.Mathlib.Numerals.{add-one}
 use native.Mathlib.Omega.{arith}
-use lib.Bits.{bitOr, bitAnd, or-add-and, and-le-l, and-le-r}
+use lib.Bits.{bitOr, or-add-and, and-le-l, and-le-r}
 use lib.Dec.{ltb, eqb}
 use lib.ListN.{length, getD, take, drop, replicate, length-drop}
 use lib.Seq.{take-all, drop-drop, getD-take, getD-drop}
@@ -88,28 +88,30 @@ pub passed-none : {w : List ℕ} {count number : ℕ} → Passed w count number 
 unfolding rowsOf any
 passed-none = record { none = refl; to = omega arith }
 
-pub passed-next : {w : List ℕ} {count number i : ℕ} → i < count → (getD w (rowSize * i + 1) 0 ≡ number → ⊥) → Passed w count number i → Passed w count number (i + 1)
-unfolding any
-passed-next {w} {count} {number} {i} h other inv =
-    let differs : hasNumber number (rowOf (take rowSize (drop (rowSize * i) w))) ≡ false = ne-eqb _ _ (λ e. other (sym (row-number i w) ∙ e)) in
-    record {
-      none = rw (add-one i, rows-suc i w, any-append (hasNumber number) (rowsOf i w) (rowOf (take rowSize (drop (rowSize * i) w)) ∷ []), inv .none, differs);
-      to = omega arith;
-    }
+module _ {w : List ℕ} {count number i : ℕ} (inv : Passed w count number i) where
+  pub passed-next : i < count → (getD w (rowSize * i + 1) 0 ≡ number → ⊥) → Passed w count number (i + 1)
+  unfolding any
+  passed-next h other =
+      let differs : hasNumber number (rowOf (take rowSize (drop (rowSize * i) w))) ≡ false = ne-eqb _ _ (λ e. other (sym (row-number i w) ∙ e)) in
+      record {
+        none = rw (add-one i, rows-suc i w, any-append (hasNumber number) (rowsOf i w) (rowOf (take rowSize (drop (rowSize * i) w)) ∷ []), inv .none, differs);
+        to = omega arith;
+      }
 
-pub passed-found : {w : List ℕ} {count number i : ℕ} → i < count → getD w (rowSize * i + 1) 0 ≡ number → Passed w count number i → true ≡ any (hasNumber number) (rowsOf count w)
-unfolding any rowsOf
-passed-found {w} {count} {number} {i} h this inv =
-    let whole : count ≡ i + suc (count - i - 1) = omega arith in
-    let rest : List ℕ = drop (rowSize * i) w in
-    let found : hasNumber number (rowOf (take rowSize rest)) ≡ true = eq-eqb _ _ (row-number i w ∙ this) in
-    sym (ap (λ (k : ℕ). any (hasNumber number) (rowsOf k w)) whole
-    ∙ ap (any (hasNumber number)) (rows-split i (suc (count - i - 1)) w)
-    ∙ any-append (hasNumber number) (rowsOf i w) (rowsOf (suc (count - i - 1)) rest)
-    ∙ rw (inv .none, found))
+  pub passed-found : i < count → getD w (rowSize * i + 1) 0 ≡ number → true ≡ any (hasNumber number) (rowsOf count w)
+  unfolding any rowsOf
+  passed-found h this =
+      let left : ℕ = count - i - 1 in
+      let whole : count ≡ i + suc left = omega arith in
+      let rest : List ℕ = drop (rowSize * i) w in
+      let found : hasNumber number (rowOf (take rowSize rest)) ≡ true = eq-eqb _ _ (row-number i w ∙ this) in
+      sym (ap (λ (k : ℕ). any (hasNumber number) (rowsOf k w)) whole
+      ∙ ap (any (hasNumber number)) (rows-split i (suc left) w)
+      ∙ any-append (hasNumber number) (rowsOf i w) (rowsOf (suc left) rest)
+      ∙ rw (inv .none, found))
 
-pub passed-end : {w : List ℕ} {count number i : ℕ} → count ≤ i → Passed w count number i → false ≡ any (hasNumber number) (rowsOf count w)
-passed-end {count = count} {i = i} h inv = let end : i ≡ count = omega (arith, inv .to) in sym (rw end at (inv .none))
+  pub passed-end : count ≤ i → false ≡ any (hasNumber number) (rowsOf count w)
+  passed-end h = let end : i ≡ count = omega (arith, inv .to) in sym (rw end at (inv .none))
 
 -- the rows that lead, as a loop passes them: none has a number above the largest
 abbrev above : ℕ → Row → Bool

@@ -69,7 +69,8 @@ fn leading_sound(securities: u32, clock: u32, rows: &[u32]) -> usize
     i
 }
 
-// Where the rest begins with a marked row, which is unsound or has a number that stands before it, the rest is not all zero: the row's mark is not.
+// The rest begins with a free row, or with a marked one that is unsound or has a number that stands before it: such a row's mark is not 0, so that the
+// test of the free rows refuses it too.
 fn sound_rows(securities: u32, clock: u32, rows: &[u32]) -> bool
     requires { ⌜ length (now rows) ≡ rowSize * deskRows ⌝ }
     ensures { λ r. ⌜ r ≡ soundRows securities clock (rowsOf deskRows (now (rows .entry))) ⌝ }

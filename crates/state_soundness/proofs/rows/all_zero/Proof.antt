@@ -29,13 +29,13 @@ loop-again c =
     let turn = c .before .before .loop in (
       omega arith,
       rw (or-zero (turn .bits) (getD words (turn .i) 0))
-          (tested-next (equals 0) (eqb (turn .bits) 0) words (turn .i) 0 (eqb (getD words (turn .i) 0) 0) (c .before .loop-test .taken) refl (turn .inv .1)),
+          (tested-next (equals 0) (eqb (turn .bits) 0) words (turn .i) 0 (eqb (getD words (turn .i) 0) 0) (omega arith) refl (turn .inv .1)),
     )
 
 returns : tie.Need-returns Inv-loop μ-loop
 returns c =
     let turn = c .before .loop in
-    tested-end (equals 0) (eqb (turn .bits) 0) (c .before .before .args .words .now) (turn .i) (c .loop-test .left) (turn .inv .1)
+    tested-end (equals 0) (eqb (turn .bits) 0) (c .before .before .args .words .now) (turn .i) (omega arith) (turn .inv .1)
 
 pub all-zero-spec : {M : Type 1} → statement M
 all-zero-spec =

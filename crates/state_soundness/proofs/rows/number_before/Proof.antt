@@ -17,13 +17,13 @@ loop-holds : tie.Need-loop-holds Inv-loop μ-loop
 loop-holds c = passed-none
 
 returns : tie.Need-returns Inv-loop μ-loop
-returns c = passed-found (c .before .before .loop-test .taken) (c .if1 .taken) (c .before .before .before .loop .inv)
+returns c = passed-found (c .before .before .before .loop .inv) (omega arith) (c .if1 .taken)
 
 loop-again : tie.Need-loop-again Inv-loop μ-loop
-loop-again c = passed-next (c .before .before .loop-test .taken) (c .if1 .left) (c .before .before .before .loop .inv)
+loop-again c = passed-next (c .before .before .before .loop .inv) (omega arith) (c .if1 .left)
 
 returns-2 : tie.Need-returns-2 Inv-loop μ-loop
-returns-2 c = passed-end (c .loop-test .left) (c .before .loop .inv)
+returns-2 c = passed-end (c .before .loop .inv) (omega arith)
 
 pub number-before-spec : {M : Type 1} → statement M
 number-before-spec =
