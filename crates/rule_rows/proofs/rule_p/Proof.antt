@@ -40,7 +40,7 @@ returns-2 c =
     let in-loop = c .before .before .before in
     let covered = in-loop .before .before in
     rw (passed (covered .before .covered-by-p .ensures) (covered .if1 .left))
-    (sym (looking-free (in-loop .before .loop .inv) (in-loop .loop-test .taken) _ (c .if2 .taken) (covered .before .before .pre) (free-reenters-not _ _)))
+    (sym (looking-free (in-loop .before .loop .inv) (omega arith) _ (c .if2 .taken) (covered .before .before .pre) (free-reenters-not _ _)))
 
 returns-3 : tie.Need-returns-3 Inv-loop μ-loop
 unfolding ruleP
@@ -48,12 +48,12 @@ returns-3 c =
     let in-loop = c .before .before .before .before .before in
     let covered = in-loop .before .before in
     rw (passed (covered .before .covered-by-p .ensures) (covered .if1 .left))
-    (looking-next (in-loop .before .loop .inv) (in-loop .loop-test .taken) _ (known (c .before .reenters .ensures) (c .if3 .taken)) .so-far)
+    (looking-next (in-loop .before .loop .inv) (omega arith) _ (known (c .before .reenters .ensures) (c .if3 .taken)) .so-far)
 
 loop-again : tie.Need-loop-again Inv-loop μ-loop
 loop-again c =
     let in-loop = c .before .before .before .before .before in
-    looking-next (in-loop .before .loop .inv) (in-loop .loop-test .taken) _ (known (c .before .reenters .ensures) (c .if3 .left))
+    looking-next (in-loop .before .loop .inv) (omega arith) _ (known (c .before .reenters .ensures) (c .if3 .left))
 
 returns-4 : tie.Need-returns-4 Inv-loop μ-loop
 unfolding ruleP

@@ -41,7 +41,7 @@ returns-2 c =
     let in-loop = c .before .before .before in
     let asked = in-loop .before .before in
     rw (eq-eqb _ _ (asked .before .if1 .left), ← asked .prices-on .ensures)
-    (sym (looking-free (in-loop .before .loop .inv) (in-loop .loop-test .taken) _ (c .if2 .taken) (asked .before .before .before .pre) (free-trades-not _ _ _)))
+    (sym (looking-free (in-loop .before .loop .inv) (omega arith) _ (c .if2 .taken) (asked .before .before .before .pre) (free-trades-not _ _ _)))
 
 returns-3 : tie.Need-returns-3 Inv-loop μ-loop
 unfolding ruleW
@@ -49,12 +49,12 @@ returns-3 c =
     let in-loop = c .before .before .before .before .before in
     let asked = in-loop .before .before in
     rw (eq-eqb _ _ (asked .before .if1 .left), ← asked .prices-on .ensures)
-    (looking-next (in-loop .before .loop .inv) (in-loop .loop-test .taken) _ (known (c .before .trades-with-own .ensures) (c .if3 .taken)) .so-far)
+    (looking-next (in-loop .before .loop .inv) (omega arith) _ (known (c .before .trades-with-own .ensures) (c .if3 .taken)) .so-far)
 
 loop-again : tie.Need-loop-again Inv-loop μ-loop
 loop-again c =
     let in-loop = c .before .before .before .before .before in
-    looking-next (in-loop .before .loop .inv) (in-loop .loop-test .taken) _ (known (c .before .trades-with-own .ensures) (c .if3 .left))
+    looking-next (in-loop .before .loop .inv) (omega arith) _ (known (c .before .trades-with-own .ensures) (c .if3 .left))
 
 returns-4 : tie.Need-returns-4 Inv-loop μ-loop
 unfolding ruleW
