@@ -36,15 +36,15 @@ pub fn session_changed(d: Desk) -> Desk
 }
 
 // The row at a place as an event leaves it: a row that it makes free goes, and the others close up.
-pub fn changed_at(place: usize, row: Row, d: Desk) -> Desk
+pub fn changed_at(place: usize, left: Row, d: Desk) -> Desk
     requires { ⌜ (place < deskRows) × (closeUp (d .rows) ≡ d .rows) ⌝ }
-    ensures { λ r. ⌜ r ≡ withRows (changedAt place row (d .rows)) d ⌝ }
+    ensures { λ r. ⌜ r ≡ withRows (changedAt place left (d .rows)) d ⌝ }
 {
-    if row.mark == 0 {
+    if left.mark == 0 {
         return removed(place, d);
     }
     let mut after = d;
-    after.rows[place] = row;
+    after.rows[place] = left;
     after
 }
 

@@ -22,7 +22,7 @@ change-row-spec =
     tie.close
     (tie.spec
     (λ c κs. c .before .before .pre .0)
-    (λ c κs. (c .before .before .before .before .pre .1, subst (λ (d : Desk). closeUp (d .rows) ≡ d .rows) (sym (c .before .desk-at .ensures)) (c .before .before .before .before .pre .2)))
+    (λ c κs. (search needs, subst (λ (d : Desk). closeUp (d .rows) ≡ d .rows) (sym (c .before .desk-at .ensures)) (c .before .before .before .before .pre .2)))
     (λ c κs. c .before .before .before .before .before .pre .0)
     (λ c. search needs)
     returns)
