@@ -10,8 +10,10 @@ use native.Mathlib.Nat.{suc-sub-suc}
 use native.Mathlib.Omega.{arith}
 use lib.ListN.{length, getD, set, replicate, getD-replicate, replicate-append-replicate}
 use lib.Seq.{set-append-left}
+use borrow.Author.Tests.{eq-eqb, ne-eqb}
 use Rattle.definitions.specs.declared.Row.{Row}
 use Rattle.definitions.specs.declared.Desk.{Desk}
+use Rattle.definitions.specs.Codes.{freeMark}
 use Rattle.definitions.specs.Lists.{all, keep, count}
 use Rattle.definitions.specs.Sound.{marked}
 use Rattle.definitions.specs.Desks.{freeRow, closeUp, edited, withRows, changed}
@@ -83,6 +85,15 @@ module _ (front : List Row) (n place : ℕ) (h : all marked front ≡ true) (bel
 marked-first : (rows : List Row) → closeUp rows ≡ rows → keep marked rows ++ replicate (length rows - count marked rows) freeRow ≡ rows
 unfolding closeUp
 marked-first rows whole = whole
+
+-- the row that is left is free, or it is not
+pub left-free : (place : ℕ) (r : Row) (rows : List Row) → r .mark ≡ freeMark → changedAt place r rows ≡ removedAt place rows
+unfolding changedAt
+left-free place r rows free = rw (eq-eqb (r .mark) freeMark free)
+
+pub left-marked : (place : ℕ) (r : Row) (rows : List Row) → (r .mark ≡ freeMark → ⊥) → changedAt place r rows ≡ set rows place r
+unfolding changedAt
+left-marked place r rows some = rw (ne-eqb (r .mark) freeMark some)
 
 -- f changes the row at a place and no other
 module _ (f : Row → Row) (d : Desk) (place : ℕ) (z : Row) (whole : closeUp (d .rows) ≡ d .rows) (below : place < length (d .rows)) (there : marked (getD (d .rows) place z) ≡ true) where
