@@ -4,7 +4,7 @@
 use mathlib.Core.Bool.{Bool, true, false, _&&_, _||_, not, and-true, and-false}
 use mathlib.Core.List.{List, [], _∷_}
 use mathlib.Core.Logic.{⊎-elim}
-use mathlib.Core.Path.{_≡_, ap, _∙_}
+use mathlib.Core.Path.{_≡_, ap}
 use Prim.Native.Nat.{ℕ, _+_, _≤_, _<_}
 use native.Mathlib.Omega.{arith}
 use lib.Dec.{ltb, eqb}
@@ -26,11 +26,11 @@ use Rattle.definitions.specs.Sound.{priceOrAbsent, soundTerms, soundPric
 use Rattle.definitions.specs.Events.{eventIn, bytesConditions}
 use Rattle.definitions.specs.Refusals.{badName}
 use Rattle.definitions.specs.Rules.{orElse, reference10, tenApart, coveredBy10, warn10}
-use Rattle.definitions.specs.Gate.{answerOf, perform, marketViewAt, refusedOr, eventAnswer}
+use Rattle.definitions.specs.Gate.{perform, marketViewAt, eventAnswer}
 use Rattle.definitions.proofs.Tests.{either, or-cases, joined-parts}
-use Rattle.definitions.proofs.Passed.{table, outcome-read}
+use Rattle.definitions.proofs.Passed.{answer-read}
 use Rattle.definitions.proofs.SoundSecurity.{security-true}
-use Rattle.definitions.proofs.WellFormed.{Good, fits, records-sound}
+use Rattle.definitions.proofs.WellFormed.{Good, fits, records-sound, security-counted}
 
 -- paper 01: "more than 10 ladder positions from the projected price, else last sale, else prior close; none, no check"
 abbrev pub apartOnLadder : ℕ → ℕ → Bool
@@ -99,17 +99,14 @@ module _ {customers securities : ℕ} (w : List ℕ) (good : Good customers secu
   module _ (x : Setup) (below : x .security < securities) (listed : soundTerms (x .terms) ≡ true)
       (b : List ℕ) (read : firstMet (bytesConditions b) ≡ 0) (e : eventIn b ≡ event.Setup x) where
     named : badName (headerOf w) (event.Setup x) ≡ false
-    named = lt-leb (headerOf w .securities) (x .security) (rw (good .sized .counted) below)
-
-    answer-is : (n : ℕ) → firstMet (table w (event.Setup x)) ≡ n → eventAnswer w b ≡ answerOf (refusedOr n (perform w (event.Setup x)))
-    answer-is n first = ap answerOf (outcome-read w b (fits w good)) ∙ rw (read, e, first)
+    named = security-counted w good (x .security) below
 
     -- "Refusal 6 .. now take[s] any prior close up to 10,000,000"
     pub close-taken : x .prior .ipo ≤ lastPrice → x .prior .close ≤ lastPrice → eventAnswer w b ≡ answer.Ok
     unfolding firstMet perform
     close-taken ipo last =
-        answer-is 0 (rw (named, listed, le-leb (x .prior .close) lastPrice last, le-leb (x .prior .ipo) lastPrice ipo, records-sound w good (event.Setup x) named))
+        answer-read w b (fits w good) read e 0 (rw (named, listed, le-leb (x .prior .close) lastPrice last, le-leb (x .prior .ipo) lastPrice ipo, records-sound w good (event.Setup x) named))
 
     pub close-refused : lastPrice < x .prior .close → eventAnswer w b ≡ answer.Refused 6
     unfolding firstMet perform
-    close-refused past = answer-is 6 (rw (named, listed, lt-leb (x .prior .close) lastPrice past))
+    close-refused past = answer-read w b (fits w good) read e 6 (rw (named, listed, lt-leb (x .prior .close) lastPrice past))

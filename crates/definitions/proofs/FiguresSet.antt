@@ -17,17 +17,17 @@ use Rattle.definitions.specs.declared.Row.{Row}
 use Rattle.definitions.specs.declared.Event.{Event}
 use Rattle.definitions.specs.declared.Event.the-variants as event
 use Rattle.definitions.specs.declared.Answer.the-variants as answer
-use Rattle.definitions.specs.Codes.{foreignBoard, deskRows, maxShares}
+use Rattle.definitions.specs.Codes.{foreignBoard, maxShares}
 use Rattle.definitions.specs.Lists.{firstMet}
 use Rattle.definitions.specs.State.{noFigures, headerOf, securityAt, deskAt, putSecurity}
 use Rattle.definitions.specs.Sound.{settable}
 use Rattle.definitions.specs.Events.{two, eventIn, bytesConditions}
 use Rattle.definitions.specs.Desks.{cancelledRow, matchedRow, restRow, changed}
 use Rattle.definitions.specs.Refusals.{badName}
-use Rattle.definitions.specs.Gate.{Outcome, answerOf, wordsOf, afterSetup, afterPrices, afterFigures, changeSecurity, changeDesk, afterSession, perform, refusedOr, eventAnswer, eventWords}
+use Rattle.definitions.specs.Gate.{Outcome, wordsOf, afterSetup, afterPrices, afterFigures, changeSecurity, changeDesk, afterSession, perform, eventAnswer, eventWords}
 use Rattle.definitions.proofs.Tests.{either}
-use Rattle.definitions.proofs.Passed.{Passed, table, passed, none-met-event, outcome-read}
-use Rattle.definitions.proofs.WellFormed.{Good, fits, compared, records-sound, below-securities, order-names, badCustomer, customer-named}
+use Rattle.definitions.proofs.Passed.{Passed, table, passed, none-met-event, answer-read}
+use Rattle.definitions.proofs.WellFormed.{Good, fits, compared, records-sound, security-counted, below-securities, order-names, badCustomer, customer-named}
 use Rattle.definitions.proofs.SoundDesk as desk
 use Rattle.definitions.proofs.State as state
 use Rattle.definitions.proofs.HeaderWords as words
@@ -69,15 +69,12 @@ module _ {customers securities : ℕ} (w : List ℕ) (good : Good customers secu
     x-figures = x .figures
 
     named : badName (headerOf w) (event.Figures x) ≡ false
-    named = lt-leb (headerOf w .securities) (x .security) (rw (good .sized .counted) below)
-
-    answer-is : (n : ℕ) → firstMet (table w (event.Figures x)) ≡ n → eventAnswer w b ≡ answerOf (refusedOr n (perform w (event.Figures x)))
-    answer-is n first = ap answerOf (outcome-read w b (fits w good)) ∙ rw (read, e, first)
+    named = security-counted w good (x .security) below
 
     by-test : (t : Bool) → settable prior x-figures ≡ t → eventAnswer w b ≡ cond t answer.Ok (answer.Refused 13)
     unfolding firstMet perform
-    by-test true taken = answer-is 0 (rw (named, records-sound w good (event.Figures x) named, taken))
-    by-test false not-taken = answer-is 13 (rw (named, records-sound w good (event.Figures x) named, not-taken))
+    by-test true taken = answer-read w b (fits w good) read e 0 (rw (named, records-sound w good (event.Figures x) named, taken))
+    by-test false not-taken = answer-read w b (fits w good) read e 13 (rw (named, records-sound w good (event.Figures x) named, not-taken))
 
     -- "a new kind .. is answered ok": read whole, of a security below S, with shares, and a dividend below the prior close
     pub figures-taken : 1 ≤ x-figures .«old_shares» → x-figures .«old_shares» ≤ maxShares → x-figures .«new_shares» ≤ maxShares → x-figures .dividend < prior
@@ -108,12 +105,9 @@ module _ {customers securities : ℕ} (w : List ℕ) (good : Good customers secu
   unfolding afterPrices
   prices-keep x y = either (λ (z : Security). z .figures ≡ y .figures) (eqb (x .board) foreignBoard) _ _ (λ _. refl) (λ _. refl)
 
-  rows-whole : (k : ℕ) → length (deskAt w k .rows) ≡ deskRows
-  rows-whole k = state.length-desk-rows w (good .sized) k
-
   desk-keeps : (k : ℕ) → badCustomer w k ≡ false → (f : Row → Row) (s : ℕ) → s < securities → securityAt (changeDesk (changed f) k w) s .figures ≡ securityAt w s .figures
   desk-keeps k named f s s-below =
-      ap (λ (y : Security). y .figures) (state.security-put-desk w (good .sized) k (customer-named w good k named) _ (desk.length-changed f (deskAt w k) ∙ rows-whole k) s s-below)
+      ap (λ (y : Security). y .figures) (state.security-put-desk w (good .sized) k (customer-named w good k named) _ (desk.length-changed f (deskAt w k) ∙ state.length-desk-rows w k) s s-below)
 
   pub figures-performed : (e : Event) → Passed w e → (s : ℕ) → s < securities → securityAt (wordsOf w (perform w e)) s .figures ≡ figuresBy e s (securityAt w s .figures)
   unfolding perform afterSession afterSetup afterFigures
@@ -127,7 +121,7 @@ module _ {customers securities : ℕ} (w : List ℕ) (good : Good customers secu
   figures-performed (event.Order k x) p s below =
       ap (λ (y : Security). y .figures)
       (state.security-put-desk w (good .sized) k (order-names w good k (x .security) (passed 4 w (event.Order k x) p) .0) _
-      (desk.length-ordered _ (headerOf w .clock) x (deskAt w k) ∙ rows-whole k) s below)
+      (desk.length-ordered _ (headerOf w .clock) x (deskAt w k) ∙ state.length-desk-rows w k) s below)
   figures-performed (event.Cancel k x) p s below = desk-keeps k (passed 4 w (event.Cancel k x) p) (cancelledRow (x .number) (headerOf w .clock)) s below
   figures-performed (event.Match k x) p s below = desk-keeps k (passed 4 w (event.Match k x) p) (matchedRow (x .number) (x .volume)) s below
   figures-performed (event.Rest k x) p s below = desk-keeps k (passed 4 w (event.Rest k x) p) (restRow (x .number) (x .price)) s below

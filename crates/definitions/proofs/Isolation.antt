@@ -143,11 +143,8 @@ module _ {customers securities : ℕ} (w : List ℕ) (good : Good customers secu
       ∙ sym (state.market-put-security w (good .sized) s s-below (f (securityAt w s))))
       (sym (state.desk-put-security w (good .sized) s s-below (f (securityAt w s)) k))
 
-  rows-whole : length (deskAt w k .rows) ≡ deskRows
-  rows-whole = state.length-desk-rows w (good .sized) k
-
   put-back-changed : (f : Row → Row) → loneDone answer.Ok (marketWords w) (changed f (deskAt w k)) ≡ shown (done answer.Ok (changeDesk (changed f) k w))
-  put-back-changed f = put-back answer.Ok (changed f (deskAt w k)) (desk.length-changed f (deskAt w k) ∙ rows-whole)
+  put-back-changed f = put-back answer.Ok (changed f (deskAt w k)) (desk.length-changed f (deskAt w k) ∙ state.length-desk-rows w k)
 
   session-same : (s : ℕ) → loneSession (loneOf w k) s ≡ shown (perform w (event.Session s))
   unfolding perform afterSession sessionMarket
@@ -188,7 +185,7 @@ module _ {customers securities : ℕ} (w : List ℕ) (good : Good customers secu
       put-security (x .security) (afterPrices x) (below-securities w good (x .security) (passed 4 w (event.Prices x) p))
   same-perform (event.Order j x) fed p =
       ap₂ (orderBy x) header-same (security-same (x .security) (order-names w good j (x .security) (passed 4 w (event.Order j x) p) .1))
-      ∙ put-back _ _ (desk.length-ordered _ (headerOf w .clock) x (deskAt w k) ∙ rows-whole)
+      ∙ put-back _ _ (desk.length-ordered _ (headerOf w .clock) x (deskAt w k) ∙ state.length-desk-rows w k)
       ∙ ap (λ (i : ℕ). shown (perform w (event.Order i x))) (sym (fed-customer customers j k fed))
   same-perform (event.Cancel j x) fed p =
       ap (λ (h : Header). loneDone answer.Ok (marketWords w) (changed (cancelledRow (x .number) (h .clock)) (deskAt w k))) header-same
@@ -240,14 +237,11 @@ module _ {customers securities : ℕ} (w : List ℕ) (good : Good customers secu
   not-own : (j : ℕ) → j < customers → fedTo k (ownerNamed customers (one j)) ≡ false → j ≡ k → ⊥
   not-own j j-below f = eqb-false j k (rw (lt-ltb j customers j-below) at f)
 
-  other-rows : (j : ℕ) → length (deskAt w j .rows) ≡ deskRows
-  other-rows j = state.length-desk-rows w (good .sized) j
-
   other-changed : (j : ℕ) → badCustomer w j ≡ false → fedTo k (ownerNamed customers (one j)) ≡ false → (f : Row → Row)
       → loneOf (changeDesk (changed f) j w) k ≡ loneOf w k
   other-changed j named other f =
       let j-below = customer-named w good j named in
-      other-desk j _ j-below (not-own j j-below other) (desk.length-changed f (deskAt w j) ∙ other-rows j)
+      other-desk j _ j-below (not-own j j-below other) (desk.length-changed f (deskAt w j) ∙ state.length-desk-rows w j)
 
   pub other-perform : (e : Event) → fedTo k (ownerNamed customers (customerNamed e)) ≡ false → Passed w e → loneOf (wordsOf w (perform w e)) k ≡ loneOf w k
   unfolding perform
@@ -257,7 +251,7 @@ module _ {customers securities : ℕ} (w : List ℕ) (good : Good customers secu
   other-perform (event.Prices x) f p = absurd (true≢false f)
   other-perform (event.Order j x) f p =
       let j-below = order-names w good j (x .security) (passed 4 w (event.Order j x) p) .0 in
-      other-desk j _ j-below (not-own j j-below f) (desk.length-ordered _ (headerOf w .clock) x (deskAt w j) ∙ other-rows j)
+      other-desk j _ j-below (not-own j j-below f) (desk.length-ordered _ (headerOf w .clock) x (deskAt w j) ∙ state.length-desk-rows w j)
   other-perform (event.Cancel j x) f p = other-changed j (passed 4 w (event.Cancel j x) p) f (cancelledRow (x .number) (headerOf w .clock))
   other-perform (event.Match j x) f p = other-changed j (passed 4 w (event.Match j x) p) f (matchedRow (x .number) (x .volume))
   other-perform (event.Rest j x) f p = other-changed j (passed 4 w (event.Rest j x) p) f (restRow (x .number) (x .price))

@@ -125,5 +125,5 @@ cancel-marks w good b k x e answered r there mark number type =
     let below = customer-named w good k (passed 4 w (event.Cancel k x) p) in
     let f = cancelledRow (x .number) (headerOf w .clock) in
     let marks : f r ≡ cancelledAt (headerOf w .clock) r = rw (mark, eq-eqb (r .number) (x .number) number, type) in
-    rw (unrefused-performs w b answered, e, desk-put-same w (good .sized) k below (changed f (deskAt w k)) (length-changed f (deskAt w k) ∙ length-desk-rows w (good .sized) k))
+    rw (unrefused-performs w b answered, e, desk-put-same w (good .sized) k below (changed f (deskAt w k)) (length-changed f (deskAt w k) ∙ length-desk-rows w k))
     (stands-edited f marks refl there)

@@ -132,7 +132,7 @@ module _ (b : List ℕ) (k : ℕ) (o : Order) (is-order : eventIn b ≡ event.Or
     sized = state.fits-sized w fits
 
     whole : length (after .rows) ≡ deskRows
-    whole = length-ordered _ (headerOf w .clock) o (deskAt w k) ∙ state.length-desk-rows w sized k
+    whole = length-ordered _ (headerOf w .clock) o (deskAt w k) ∙ state.length-desk-rows w k
 
     put-only : OnlyItsDesk k w (putDesk w k after)
     unfolding putDesk

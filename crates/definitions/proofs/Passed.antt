@@ -2,7 +2,7 @@
 -- Assumes nothing.
 use mathlib.Core.Bool.{Bool, true, false, cond, not}
 use mathlib.Core.List.{List, [], _∷_}
-use mathlib.Core.Path.{_≡_, refl, ap}
+use mathlib.Core.Path.{_≡_, refl, ap, _∙_}
 use Prim.Native.Nat.{ℕ}
 use native.Mathlib.Omega.{arith}
 use lib.Dec.{eqb}
@@ -13,7 +13,7 @@ use Rattle.definitions.specs.Lists.{all, firstMet}
 use Rattle.definitions.specs.State.{headerOf, stateFits}
 use Rattle.definitions.specs.Events.{eventIn, bytesConditions}
 use Rattle.definitions.specs.Refusals.{eventConditions}
-use Rattle.definitions.specs.Gate.{answerOf, viewOf, recordsSound, conditions, perform, refusedOr, outcome}
+use Rattle.definitions.specs.Gate.{answerOf, viewOf, recordsSound, conditions, perform, refusedOr, outcome, eventAnswer}
 use Rattle.definitions.proofs.Table.{Numbered, met, unmet, first-append, none-append}
 
 abbrev pub table : List ℕ → Event → List (ℕ × Bool)
@@ -78,3 +78,8 @@ module _ (w b : List ℕ) where
   unfolding outcome conditions firstMet
   outcome-read fits =
       rw fits (ap (λ (n : ℕ). refusedOr n (perform w (eventIn b))) (first-append (bytesConditions b) (table w (eventIn b)) (numbered-bytes b)))
+
+  -- the answer to an event that is read whole
+  pub answer-read : stateFits w ≡ true → firstMet (bytesConditions b) ≡ 0 → {e : Event} → eventIn b ≡ e → (n : ℕ) → firstMet (table w e) ≡ n
+      → eventAnswer w b ≡ answerOf (refusedOr n (perform w e))
+  answer-read fits read is n first = ap answerOf (outcome-read fits) ∙ rw (read, is, first)

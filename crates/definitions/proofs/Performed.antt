@@ -14,7 +14,6 @@ use Rattle.definitions.specs.declared.Desk.{Desk}
 use Rattle.definitions.specs.declared.Event.{Event}
 use Rattle.definitions.specs.declared.Event.the-variants as event
 use Rattle.definitions.specs.declared.Answer.{Answer}
-use Rattle.definitions.specs.Codes.{deskRows}
 use Rattle.definitions.specs.Lists.{firstMet}
 use Rattle.definitions.specs.State.{headerOf, deskAt}
 use Rattle.definitions.specs.Events.{eventIn, customerNamed, ownerNamed}
@@ -63,12 +62,9 @@ kept-by-event P w left done b =
     either (λ (o : Outcome). P (wordsOf w o)) (eqb first 0) _ _ (λ unmet. done (eventIn b) (none-met-event w b (eqb-true first 0 unmet))) (λ _. left)
 
 module _ {customers securities : ℕ} (w : List ℕ) (good : Good customers securities w) where
-  rows-whole : (k : ℕ) → length (deskAt w k .rows) ≡ deskRows
-  rows-whole k = state.length-desk-rows w (good .sized) k
-
   header-changed : (k : ℕ) → badCustomer w k ≡ false → (f : Row → Row) → headerOf (changeDesk (changed f) k w) ≡ headerOf w
   header-changed k named f =
-      state.header-put-desk w (good .sized) k (customer-named w good k named) _ (desk.length-changed f (deskAt w k) ∙ rows-whole k)
+      state.header-put-desk w (good .sized) k (customer-named w good k named) _ (desk.length-changed f (deskAt w k) ∙ state.length-desk-rows w k)
 
   pub header-performed : (e : Event) → Passed w e → headerOf (wordsOf w (perform w e)) ≡ headerBy e (headerOf w)
   unfolding perform afterSession
@@ -82,7 +78,7 @@ module _ {customers securities : ℕ} (w : List ℕ) (good : Good customers secu
       state.header-put-security w (good .sized) (x .security) (below-securities w good (x .security) (passed 4 w (event.Prices x) p)) _
   header-performed (event.Order k x) p =
       state.header-put-desk w (good .sized) k (order-names w good k (x .security) (passed 4 w (event.Order k x) p) .0) _
-      (desk.length-ordered _ (headerOf w .clock) x (deskAt w k) ∙ rows-whole k)
+      (desk.length-ordered _ (headerOf w .clock) x (deskAt w k) ∙ state.length-desk-rows w k)
   header-performed (event.Cancel k x) p = header-changed k (passed 4 w (event.Cancel k x) p) (cancelledRow (x .number) (headerOf w .clock))
   header-performed (event.Match k x) p = header-changed k (passed 4 w (event.Match k x) p) (matchedRow (x .number) (x .volume))
   header-performed (event.Rest k x) p = header-changed k (passed 4 w (event.Rest k x) p) (restRow (x .number) (x .price))

@@ -19,7 +19,7 @@ use Rattle.definitions.specs.declared.Base.{Base}
 use Rattle.definitions.specs.Lists.{allBelow}
 use Rattle.definitions.specs.Ranges.{wholeUp, ceilingOf, floorOf}
 use Rattle.definitions.proofs.Tests.{and-parts, or-cases}
-use Rattle.definitions.proofs.RangeLaws.{IsCeiling, IsFloor, first-legal, by-contra-lt, up-reaches, up-most, ceiling-is, floor-is}
+use Rattle.definitions.proofs.RangeLaws.{IsCeiling, IsFloor, by-contra-lt, up-reaches, up-most, ceiling-is, floor-is}
 
 -- the one place where no legal price is both at or above 70% and at or below 130%, the base between 10/7 and 20/13 satang
 abbrev pub NoneWithin : Base → Type 0
@@ -171,6 +171,6 @@ module _ (b : Base) (some : 0 < b .denominator) (least : 70 * b .numerator ≤ l
         (λ empty. absurd (some-within (high, empty)))
         (λ enough. c .none-greater (floorOf b) (f .on-ladder) (reached enough))
         (less-or-not (130 * n) (200 * b .denominator)))
-        (λ low. omega (arith, f .none-less 1 first-legal (omega (arith, low)), ceiling-some))
+        (λ low. omega (arith, f .none-less 1 legalPrices.first-legal (omega (arith, low)), ceiling-some))
         (less-or-not hundred (70 * n)),
   )

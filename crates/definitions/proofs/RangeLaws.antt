@@ -11,7 +11,7 @@ use native.Mathlib.Omega.{arith}
 use lib.Dec.{leb, ltb, eqb, lit≤, lit<}
 use borrow.Author.Tests.{not-true, eqb-false, leb-true, ltb-true, lt-ltb}
 use Rattle.ladder.specs.Bands.{lastPrice}
-use Rattle.ladder.specs.Ladder.{bandOfPrice, lastBand, legal, legalDown, legalUp}
+use Rattle.ladder.specs.Ladder.{legal, legalDown, legalUp}
 use Rattle.ladder.proofs.Laws.{legal-true}
 use Rattle.ladder.proofs.LegalLaws as ladder
 use Rattle.definitions.specs.declared.Figures.{Figures}
@@ -36,10 +36,6 @@ pub record IsFloor (b : Base) (f : ℕ) : Type 0 where
   pub on-ladder : legal f ≡ true
   pub within : 70 * b .numerator ≤ f * (100 * b .denominator)
   pub none-less : (p : ℕ) → legal p ≡ true → 70 * b .numerator ≤ p * (100 * b .denominator) → f ≤ p
-
-pub first-legal : legal 1 ≡ true
-unfolding legal bandOfPrice lastBand
-first-legal = refl
 
 at-least-one : (p : ℕ) → legal p ≡ true → 1 ≤ p
 at-least-one p on = legal-true p on .above
@@ -93,7 +89,7 @@ module _ (b : Base) (some : 0 < b .denominator) where
       go : (q : ℕ) → ((p : ℕ) → (p ≤ q) ↔ (p * hundred ≤ 130 * b .numerator)) → IsCeiling b (max 1 (legalDown (min lastPrice q)))
       go zero means =
           record {
-            on-ladder = first-legal;
+            on-ladder = ladder.first-legal;
             within = inr refl;
             none-greater = λ p on inside. omega (arith, means p .1 inside);
           }

@@ -130,7 +130,7 @@ rest-limits {customers} {securities} w good b k x e answered =
     let f = restRow (x .number) (x .price) in
     let sound = good .desks-sound k below in
     let words : eventWords w b ≡ putDesk w k (changed f d) = rw (unrefused-performs w b answered, e) in
-    let after : deskAt (eventWords w b) k ≡ changed f d = rw words (desk-put-same w (good .sized) k below (changed f d) (length-changed f d ∙ length-desk-rows w (good .sized) k)) in
+    let after : deskAt (eventWords w b) k ≡ changed f d = rw words (desk-put-same w (good .sized) k below (changed f d) (length-changed f d ∙ length-desk-rows w k)) in
     record {
       there = not-false _ (passed 10 w (event.Rest k x) p);
       on-ladder = not-false _ (passed 6 w (event.Rest k x) p);

@@ -97,7 +97,7 @@ changes {customers} {securities} (suc n) w sized h = next (changes n w sized (om
 
     next : DesksChanged customers securities n w v → DesksChanged customers securities (suc n) w (putDesk v n d)
     next c =
-        let whole : length (d .rows) ≡ deskRows = length-changed sessionRow (deskAt v n) ∙ state.length-desk-rows v (c .sized) n in
+        let whole : length (d .rows) ≡ deskRows = length-changed sessionRow (deskAt v n) ∙ state.length-desk-rows v n in
         record {
           sized = state.sized-put-desk v (c .sized) n h d whole;
           header = state.header-put-desk v (c .sized) n h d whole ∙ c .header;

@@ -198,7 +198,7 @@ later-row S clock later h r e =
     }))
     (row-cases S clock r e)
 
-open-marked : (number : ℕ) (r : Row) → openWith number r ≡ true → marked r ≡ true
+pub open-marked : (number : ℕ) (r : Row) → openWith number r ≡ true → marked r ≡ true
 open-marked number r e = rw (eqb-true (r .mark) openMark (and-parts (isOpen r) (eqb (r .number) number) e .0))
 
 -- what holds of a free row, of the row itself and of what a change makes of it holds of the changed row. A session change leaves no row of ATO, ATC and MP.

@@ -39,6 +39,10 @@ fits-length w fits =
 pub fits-sized : (w : List ℕ) → stateFits w ≡ true → Sized (headerOf w .customers) (headerOf w .securities) w
 fits-sized w fits = record { long = fits-length w fits; counted = refl }
 
+pub length-desk-rows : (w : List ℕ) (k : ℕ) → length (deskAt w k .rows) ≡ deskRows
+unfolding deskAt deskOf
+length-desk-rows w k = length-rows deskRows _
+
 module _ {customers securities : ℕ} (w : List ℕ) (sized : Sized customers securities w) where
   -- a desk stands where the count of securities says
   desk-at : (k : ℕ) → deskAt w k ≡ deskOf (part w (deskPlace securities k) deskSize)
@@ -60,10 +64,6 @@ module _ {customers securities : ℕ} (w : List ℕ) (sized : Sized customers se
   pub security-market : (s : ℕ) → s < securities → securityAt (marketWords w) s ≡ securityAt w s
   unfolding securityAt
   security-market s h = rw market-is (ap securityOf (words.part-take w (securityPlace securities) (securityPlace s) securitySize (omega arith)))
-
-  pub length-desk-rows : (k : ℕ) → length (deskAt w k .rows) ≡ deskRows
-  unfolding deskAt deskOf
-  length-desk-rows k = length-rows deskRows _
 
   pub customer-words : (k : ℕ) → k < customers → customerWords w k ≡ deskWords (deskAt w k)
   unfolding customerWords deskAt

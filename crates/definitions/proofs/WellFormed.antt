@@ -195,6 +195,9 @@ module _ {customers securities : ℕ} (w : List ℕ) (good : Good customers secu
       go true e = good
       go false e = anew
 
+  pub security-counted : (s : ℕ) → s < securities → leb (headerOf w .securities) s ≡ false
+  security-counted s below = lt-leb (headerOf w .securities) s (rw (good .sized .counted) below)
+
   pub below-securities : (s : ℕ) → leb (headerOf w .securities) s ≡ false → s < securities
   below-securities s e = omega (arith, leb-false (headerOf w .securities) s e, good .sized .counted)
 
@@ -218,7 +221,7 @@ module _ {customers securities : ℕ} (w : List ℕ) (good : Good customers secu
       → Good customers securities (changeDesk (changed f) k w)
   good-changed k named f sound kept =
       let below = customer-named k named in
-      good-put-desk k _ below (desk.length-changed f (deskAt w k) ∙ state.length-desk-rows w (good .sized) k)
+      good-put-desk k _ below (desk.length-changed f (deskAt w k) ∙ state.length-desk-rows w k)
       (desk.sound-changed securities (headerOf w .clock) f sound kept (deskAt w k) (good .desks-sound k below))
 
   -- what an event that meets no condition does keeps a state well formed
@@ -239,7 +242,7 @@ module _ {customers securities : ℕ} (w : List ℕ) (good : Good customers secu
       let at = event.Order k x in
       let below = order-names k (x .security) (passed 4 w at p) in
       let d = deskAt w k in
-      let rows = state.length-desk-rows w (good .sized) k in
+      let rows = state.length-desk-rows w k in
       let within : leb securities (x .security) ≡ false = lt-leb securities (x .security) (below .1) in
       good-put-desk k _ (below .0) (desk.length-ordered _ (headerOf w .clock) x d ∙ rows)
       (desk.sound-ordered securities (marketViewAt w (x .security)) d x rows (good .desks-sound k (below .0)) within (passed 5 w at p) (passed 6 w at p) (passed 9 w at p) (passed 12 w at p))

@@ -27,6 +27,7 @@ use Rattle.definitions.specs.Rules.{View, verdictOf}
 use Rattle.definitions.specs.Refusals.{holdsNumber, numberTaken, deskFull}
 use Rattle.definitions.specs.Gate.{resultOf, viewAt, soundSecurityAt, soundDeskAt, recordsSound, perform}
 use Rattle.definitions.proofs.Tests.{never, and-parts, and-whole, or-first, or-second}
+use Rattle.definitions.proofs.State.{length-desk-rows}
 use Rattle.state_records.specs.declared.search.RowAt.{RowAt}
 use Rattle.state_records.specs.Search.{rowWith}
 use Rattle.state_records.proofs.SearchLaws.{found-most, found-there, found-numbered}
@@ -35,7 +36,7 @@ use Rattle.desks.proofs.ClosedUp.{live-marked}
 use Rattle.kind_contract.specs.First.{Ready, laterRefusal, laterOutcome}
 use Rattle.kind_contract.proofs.Laws.{unmet-first, later-refused, later-done, desk-sound, desk-closed}
 use Rattle.kind_contract.proofs.Done.{Left}
-use Rattle.one_row.proofs.OneRow.{whole, row-asked, other-not-held}
+use Rattle.one_row.proofs.OneRow.{row-asked, other-not-held}
 
 -- one row is not of a kind: not all are
 other-at : (p : Row → Bool) (rows : List Row) (i : ℕ) (z : Row) → i < length rows → p (getD rows i z) ≡ false → any (λ r. not (p r)) rows ≡ true
@@ -92,10 +93,10 @@ module _ (w : List ℕ) (k : ℕ) (o : Order) (ready : Ready w (event.Order k o)
     pub room-left : (at .place ≡ deskRows → ⊥) → isFull ≡ false
     room-left elsewhere =
         let rows = deskAt w k .rows in
-        let below : at .place < length rows = omega (arith, found-most (o .number) rows ea, whole w k) in
+        let below : at .place < length rows = omega (arith, found-most (o .number) rows ea, length-desk-rows w k) in
         let row : getD rows (at .place) freeRow ≡ at .row = found-there (o .number) rows ea below freeRow in
         let some : any (λ (r : Row). not (openOrInMinute (h .clock) r)) rows ≡ true = other-at (openOrInMinute (h .clock)) rows (at .place) freeRow below (ap (openOrInMinute (h .clock)) row ∙ gone (openOrInMinute (h .clock) (at .row)) refl) in
-        rw ed (sym (none-other (openOrInMinute (h .clock)) rows (whole w k) (sym some)))
+        rw ed (sym (none-other (openOrInMinute (h .clock)) rows (length-desk-rows w k) (sym some)))
       where
         -- a marked row that was found has the number, and none that has it is open or in its minute
         gone : (live : Bool) → openOrInMinute (h .clock) (at .row) ≡ live → live ≡ false

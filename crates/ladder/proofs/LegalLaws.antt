@@ -32,7 +32,7 @@ one-least p g h x y = omega (arith, x .none-less h (y .is-legal) (y .at-or-above
 differs : (p k : ℕ) → legal p ≡ false → legal k ≡ true → ¬ (k ≡ p)
 differs p k off on same = true≢false (sym on ∙ ap legal same ∙ off)
 
-first-legal : legal firstPrice ≡ true
+pub first-legal : legal firstPrice ≡ true
 unfolding legal bandOfPrice lastBand
 first-legal = refl
 

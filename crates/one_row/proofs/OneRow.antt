@@ -15,14 +15,14 @@ use Rattle.definitions.specs.declared.Event.{Event}
 use Rattle.definitions.specs.declared.Answer.the-variants as answer
 use Rattle.definitions.specs.Codes.{deskRows, openMark}
 use Rattle.definitions.specs.Lists.{any}
-use Rattle.definitions.specs.State.{deskOf, deskAt, putDesk}
+use Rattle.definitions.specs.State.{deskAt, putDesk}
 use Rattle.definitions.specs.Events.{one, customerNamed}
 use Rattle.definitions.specs.Sound.{marked, numbered}
 use Rattle.definitions.specs.Desks.{freeRow, isOpen, openOrInMinute, openWith, closeUp, withRows, changed}
 use Rattle.definitions.specs.Gate.{done, resultOf, recordsSound, changeDesk, perform}
 use Rattle.definitions.specs.Refusals.{holdsNumber}
-use Rattle.definitions.proofs.Tests.{and-parts, and-second}
-use Rattle.definitions.proofs.Records.{length-rows}
+use Rattle.definitions.proofs.Tests.{and-second}
+use Rattle.definitions.proofs.State.{length-desk-rows}
 use Rattle.state_records.specs.declared.search.RowAt.{RowAt}
 use Rattle.state_records.specs.Search.{rowWith}
 use Rattle.state_records.proofs.SearchLaws.{found-there, found-place, found-any, changed-at-place}
@@ -41,15 +41,8 @@ other number r false m e = refl
 pub other-not-open : (number : ℕ) (r : Row) → numbered number r ≡ false → openWith number r ≡ false
 other-not-open number r = other number r (isOpen r) (λ t. rw (eqb-true (r .mark) openMark t))
 
-pub open-there : (number : ℕ) (r : Row) → openWith number r ≡ true → marked r ≡ true
-open-there number r e = rw (eqb-true (r .mark) openMark (and-parts (isOpen r) (eqb (r .number) number) e .0))
-
 pub other-not-held : (clock number : ℕ) (r : Row) → numbered number r ≡ false → holdsNumber clock number r ≡ false
 other-not-held clock number r = other number r (openOrInMinute clock r) (live-marked clock r)
-
-pub whole : (w : List ℕ) (k : ℕ) → length (deskAt w k .rows) ≡ deskRows
-unfolding deskAt deskOf
-whole w k = length-rows deskRows _
 
 module _ (w : List ℕ) (e : Event) (read : not (recordsSound w e) ≡ false) (k : ℕ) (own : customerNamed e ≡ one k) (number : ℕ) {at : RowAt} (ea : at ≡ rowWith number (deskAt w k .rows)) where
   abbrev rows : List Row
@@ -61,7 +54,7 @@ module _ (w : List ℕ) (e : Event) (read : not (recordsSound w e) ≡ false) (k
 
   -- what `change_row` asks
   pub row-there : marked (at .row) ≡ true → (at .place < deskRows) × (closeUp rows ≡ rows)
-  row-there m = (omega (arith, found-place number rows ea m, whole w k), desk-closed w e read k own)
+  row-there m = (omega (arith, found-place number rows ea m, length-desk-rows w k), desk-closed w e read k own)
 
   -- the event changes the row with the number, and no other
   pub row-done : laterRefusal w e ≡ 0 → (f : Row → Row) → ((r : Row) → numbered number r ≡ false → f r ≡ r) → perform w e ≡ done answer.Ok (changeDesk (changed f) k w)

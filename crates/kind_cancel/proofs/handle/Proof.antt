@@ -14,10 +14,10 @@ use Rattle.definitions.specs.Sound.{marked, numbered}
 use Rattle.definitions.specs.Desks.{freeRow, openWith, cancelledRow}
 use Rattle.definitions.specs.Gate.{perform}
 use Rattle.definitions.proofs.Tests.{passed}
-use Rattle.definitions.proofs.SoundRow.{cancelled-frees}
+use Rattle.definitions.proofs.SoundRow.{open-marked, cancelled-frees}
 use Rattle.kind_contract.specs.First.{laterRefusal}
 use Rattle.kind_contract.proofs.Laws.{later-refused, unmet-first, header-fits, desk-fits}
-use Rattle.one_row.proofs.OneRow.{row-asked, row-there, row-done, open-there, other-not-open}
+use Rattle.one_row.proofs.OneRow.{row-asked, row-there, row-done, other-not-open}
 use Rattle.kind_cancel.proofs.handle.Statement.{statement}
 use Rattle.kind_cancel.proofs.handle.Tie as tie
 
@@ -40,7 +40,7 @@ change-row-requires c κs =
     let s = c .before .before .before .before .before .before .before .before .before in
     let found = c .before .before .before .before .row-with .ensures in
     let opened = passed (c .before .before .before .open-with .ensures) (c .before .before .if1 .left) in
-    let there = row-there (s .args .words .now) (event.Cancel (s .args .k) (s .args .x)) (unmet-first _ _ (s .pre) 8) (s .args .k) refl (s .args .x .number) found (open-there (s .args .x .number) (c .before .before .before .before .row-with .result .row) opened) in
+    let there = row-there (s .args .words .now) (event.Cancel (s .args .k) (s .args .x)) (unmet-first _ _ (s .pre) 8) (s .args .k) refl (s .args .x .number) found (open-marked (s .args .x .number) (c .before .before .before .before .row-with .result .row) opened) in
     (desk-fits _ _ (s .pre) _ refl, there .0, there .1)
 
 returns-2 : tie.Need-returns-2
@@ -54,7 +54,7 @@ returns-2 c =
     let read = unmet-first w e (s .pre) 8 in
     let found = c .before .before .before .before .before .before .before .row-with in
     let asked = c .before .before .before .before .before .before .open-with in
-    let there = open-there number (found .result .row) (passed (asked .ensures) (c .before .before .before .before .before .if1 .left)) in
+    let there = open-marked number (found .result .row) (passed (asked .ensures) (c .before .before .before .before .before .if1 .left)) in
     let clock : c .before .before .before .before .before .before .before .before .before .header-of .result .clock ≡ headerOf w .clock = ap (λ (h : Header). h .clock) (c .before .before .before .before .before .before .before .before .before .header-of .ensures) in
     row-done w e read k refl number (found .ensures)
     (rw (row-asked w e read k refl number (found .ensures) (openWith number) (other-not-open number) (asked .ensures), c .before .before .before .before .before .if1 .left))

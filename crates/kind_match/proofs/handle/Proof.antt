@@ -15,10 +15,10 @@ use Rattle.definitions.specs.Desks.{freeRow, openWith, matchedRow}
 use Rattle.definitions.specs.Refusals.{openBelow}
 use Rattle.definitions.specs.Gate.{perform}
 use Rattle.definitions.proofs.Tests.{passed, and-whole}
-use Rattle.definitions.proofs.SoundRow.{matched-frees}
+use Rattle.definitions.proofs.SoundRow.{open-marked, matched-frees}
 use Rattle.kind_contract.specs.First.{laterRefusal}
 use Rattle.kind_contract.proofs.Laws.{later-refused, unmet-first, desk-fits}
-use Rattle.one_row.proofs.OneRow.{row-asked, row-there, row-done, open-there, other-not-open}
+use Rattle.one_row.proofs.OneRow.{row-asked, row-there, row-done, other-not-open}
 use Rattle.kind_match.proofs.handle.Statement.{statement}
 use Rattle.kind_match.proofs.handle.Tie as tie
 
@@ -77,7 +77,7 @@ change-row-requires c κs =
     let s = c .before .before .before .before .before .before .before .before .before .before .before .before in
     let number = s .args .x .number in
     let found = c .before .before .before .before .before .before .before .before .before .row-with in
-    let opened = open-there number (found .result .row) (passed (c .before .before .before .before .before .before .before .before .open-with .ensures) (c .before .before .before .before .before .before .before .if1 .left)) in
+    let opened = open-marked number (found .result .row) (passed (c .before .before .before .before .before .before .before .before .open-with .ensures) (c .before .before .before .before .before .before .before .if1 .left)) in
     let there = row-there (s .args .words .now) (event.Match (s .args .k) (s .args .x)) (unmet-first _ _ (s .pre) 8) (s .args .k) refl number (found .ensures) opened in
     (desk-fits _ _ (s .pre) _ refl, there .0, there .1)
 
@@ -94,7 +94,7 @@ returns-4 c =
     let found = c .before .before .before .before .before .before .before .before .before .before .before .before .row-with in
     let asked = c .before .before .before .before .before .before .before .before .before .before .before .open-with in
     let opened = passed (asked .ensures) (c .before .before .before .before .before .before .before .before .before .before .if1 .left) in
-    let there = open-there number (found .result .row) opened in
+    let there = open-marked number (found .result .row) opened in
     let none : laterRefusal w e ≡ 0 = rw (
       row-asked w e read k refl number (found .ensures) (openWith number) (other-not-open number) (asked .ensures),
       c .before .before .before .before .before .before .before .before .before .before .if1 .left,

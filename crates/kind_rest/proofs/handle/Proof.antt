@@ -14,10 +14,10 @@ use Rattle.definitions.specs.Sound.{marked, numbered}
 use Rattle.definitions.specs.Desks.{openWith, openMpWith, restRow}
 use Rattle.definitions.specs.Gate.{perform}
 use Rattle.definitions.proofs.Tests.{passed, and-parts}
-use Rattle.definitions.proofs.SoundRow.{rest-changes}
+use Rattle.definitions.proofs.SoundRow.{open-marked, rest-changes}
 use Rattle.kind_contract.specs.First.{laterRefusal}
 use Rattle.kind_contract.proofs.Laws.{later-refused, unmet-first, desk-fits}
-use Rattle.one_row.proofs.OneRow.{row-asked, row-there, row-done, open-there, other-not-open}
+use Rattle.one_row.proofs.OneRow.{row-asked, row-there, row-done, other-not-open}
 use Rattle.kind_rest.proofs.handle.Statement.{statement}
 use Rattle.kind_rest.proofs.handle.Tie as tie
 
@@ -29,7 +29,7 @@ other-stays : (number price : ℕ) (r : Row) → numbered number r ≡ false →
 other-stays number price r other = rw (other-not-mp number r other)
 
 mp-there : (number : ℕ) (r : Row) → openMpWith number r ≡ true → marked r ≡ true
-mp-there number r e = open-there number r (and-parts (openWith number r) (eqb (r .«order_type») mp) e .0)
+mp-there number r e = open-marked number r (and-parts (openWith number r) (eqb (r .«order_type») mp) e .0)
 
 kept : (number price : ℕ) (r : Row) → marked r ≡ true → marked (restRow number price r) ≡ true
 kept number price r m = rest-changes (λ (x : Row). marked x ≡ true) number price r m (λ _. m)

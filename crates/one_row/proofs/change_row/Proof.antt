@@ -1,6 +1,7 @@
 -- `one_row::change_row` meets its contract: the desk that is put back is the one that was taken out, with one row changed.
 -- Assumes nothing.
 use mathlib.Core.Path.{_≡_, ap, sym, subst, _∙_}
+use native.Mathlib.Omega.{arith}
 use borrow.Author.Needs.{needs}
 use Rattle.definitions.specs.declared.Desk.{Desk}
 use Rattle.definitions.specs.State.{putDesk}
@@ -21,8 +22,8 @@ pub change-row-spec : {M : Type 1} → statement M
 change-row-spec =
     tie.close
     (tie.spec
-    (λ c κs. c .before .before .pre .0)
+    (λ c κs. omega (arith, c .before .before .pre .0))
     (λ c κs. (search needs, subst (λ (d : Desk). closeUp (d .rows) ≡ d .rows) (sym (c .before .desk-at .ensures)) (c .before .before .before .before .pre .2)))
-    (λ c κs. c .before .before .before .before .before .pre .0)
+    (λ c κs. omega (arith, c .before .before .before .before .before .pre .0))
     (λ c. search needs)
     returns)
