@@ -34,13 +34,12 @@ pub fn priced_as(order_type: u32, price: u32) -> bool
     price == 0
 }
 
+// Joined without a branch: which rows of a desk are open and which cancelled follows no pattern that a processor could guess.
 fn open_or_cancelled(clock: u32, r: Row) -> bool
     ensures { λ t. ⌜ t ≡ openOrCancelled clock r ⌝ }
 {
-    if r.mark == OPEN_MARK {
-        return r.cancel_time == 0;
-    }
-    (r.mark == CANCELLED_MARK) & (r.cancel_time <= clock) & (r.order_type == LIMIT)
+    ((r.mark == OPEN_MARK) & (r.cancel_time == 0))
+        | ((r.mark == CANCELLED_MARK) & (r.cancel_time <= clock) & (r.order_type == LIMIT))
 }
 
 // A free row, where the marked rows end, fails the first test, and no other is made.
