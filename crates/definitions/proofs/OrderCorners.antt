@@ -1,12 +1,15 @@
 -- Paper 02, 4: one order over two states that differ in every word but those of the header, the order's security and its desk, run on the definitions. The other
 -- records of both are damaged.
+use mathlib.Core.Bool.{true≢false}
 use mathlib.Core.List.{List, [], _∷_, map}
-use mathlib.Core.Path.{_≡_, refl}
+use mathlib.Core.Path.{_≡_, refl, ap}
 use Prim.Native.Nat.{ℕ, _+_}
-use lib.ListN.{replicate}
+use lib.Dec.{eqb}
+use lib.ListN.{getD, replicate}
 use Rattle.definitions.specs.declared.Verdict.the-variants.{RejectW, Accept}
+use Rattle.definitions.specs.Lists.{put}
 use Rattle.definitions.specs.Lone.{customerWords}
-use Rattle.definitions.proofs.OneOrder.{AlikeFor}
+use Rattle.definitions.proofs.OneOrder.{AlikeFor, OnlyItsDesk}
 use Rattle.definitions.proofs.Run.{resultOn}
 use Rattle.definitions.proofs.Corner.{Corner, Entry, found, right, refused, verdict, state, deskAt, rowAt, security, free, traded, untraded, desk, main, buy, sell, limit, online, entry, bytesOf, opened, follows}
 
@@ -41,3 +44,12 @@ one-right = refl
 pub other-right : map found (corners 4_294_967_295) ≡ map right (corners 4_294_967_295)
 unfolding resultOn
 other-right = refl
+
+-- a word of another customer's desk changed, before the order's and behind it, is not nothing
+not-before : OnlyItsDesk 1 (among 7) (put (among 7) (deskAt 3 0) (8 ∷ [])) → ⊥
+unfolding resultOn
+not-before only = true≢false (ap (λ (w : List ℕ). eqb (getD w (deskAt 3 0) 0) 8) (only .before))
+
+not-behind : OnlyItsDesk 1 (among 7) (put (among 7) (deskAt 3 2) (8 ∷ [])) → ⊥
+unfolding resultOn
+not-behind only = true≢false (ap (λ (w : List ℕ). eqb (getD w 0 0) 8) (only .after))

@@ -1,15 +1,15 @@
 -- Rows that are closed up, marked rows and then free ones: what stands from the first free row on, and how a row at a place is changed or goes.
 -- Assumes nothing.
-use mathlib.Core.Bool.{Bool, true, false, cond}
+use mathlib.Core.Bool.{Bool, true, false}
 use mathlib.Core.List.{List, [], _∷_, _++_, map, map-append, append-nil}
 use mathlib.Core.Logic.{⊎-elim}
-use mathlib.Core.Path.{_≡_, refl, ap, ap₂, sym, subst, _∙_}
+use mathlib.Core.Path.{_≡_, refl, ap, ap₂, sym, _∙_}
 use Prim.Native.Nat.{ℕ, zero, suc, _+_, _-_, _≤_, _<_}
 use native.Mathlib.Omega.{arith}
 use lib.Dec.{eqb}
 use native.Mathlib.Nat.{zero-add, sub-zero, zero-sub, suc-sub-suc}
-use lib.ListN.{length, getD, take, drop, set, replicate, take-append-drop, length-append, length-drop, length-replicate, replicate-append-replicate, List·getD-append, drop-of-length-le}
-use lib.Seq.{take-all, length-take-le, take-at, set-at, set-out, append-snoc, getD-append-add, getD-at, getD-drop, drop-append-add, drop-append-le, drop-drop}
+use lib.ListN.{length, getD, take, drop, set, replicate, take-append-drop, length-append, replicate-append-replicate, List·getD-append, drop-of-length-le}
+use lib.Seq.{take-all, length-take-le, take-at, set-at, set-out, append-snoc, getD-append-add, getD-at, getD-drop, drop-append-le, drop-drop}
 use borrow.Author.Tests.{eq-eqb, eqb-true}
 use Rattle.definitions.specs.declared.Row.{Row}
 use Rattle.definitions.specs.declared.Desk.{Desk}
@@ -41,9 +41,9 @@ behind (r ∷ rs) n (suc i) z h free =
 
 module _ (rows : List Row) (closed : closeUp rows ≡ rows) where
   -- from the first free row on all rows are free
-  pub free-from : (i : ℕ) (z : Row) → getD rows i z .mark ≡ freeMark → drop i rows ≡ replicate (length rows - i) freeRow
+  pub free-rows-from : (i : ℕ) (z : Row) → getD rows i z .mark ≡ freeMark → drop i rows ≡ replicate (length rows - i) freeRow
   unfolding closeUp
-  free-from i z free =
+  free-rows-from i z free =
       let front = keep marked rows in
       let n = length rows - count marked rows in
       let size : length front + n ≡ length rows = omega (arith, length-keep marked rows, count-le marked rows) in
@@ -147,7 +147,7 @@ module _ {place : ℕ} {before : Desk} where
           let n = length rows - (i + 1) in
           let one : n - 1 + 1 ≡ n = omega (arith, c .whole) in
           let after-next : suc (i + 1) ≡ i + 1 + 1 = omega arith in
-          let tail : drop (i + 1) rows ≡ replicate n freeRow = free-from rows (c .closed) (i + 1) z (ap (λ (r : Row). r .mark) (sym from-rows) ∙ free) in
+          let tail : drop (i + 1) rows ≡ replicate n freeRow = free-rows-from rows (c .closed) (i + 1) z (ap (λ (r : Row). r .mark) (sym from-rows) ∙ free) in
           let rest : drop (i + 1) left ≡ replicate n freeRow =
           rest-of rows place (i + 1) (omega (arith, c .from)) (omega (arith, c .whole))
           ∙ ap (λ l. l ++ (freeRow ∷ [])) (ap (λ (j : ℕ). drop j rows) after-next ∙ sym (drop-drop 1 (i + 1) rows) ∙ ap (drop 1) tail ∙ drop-free n 1)
@@ -166,22 +166,22 @@ pub record Placing (clock : ℕ) (before after : Desk) (i : ℕ) : Type 0 where
   pub whole : length (before .rows) ≡ deskRows
   pub closed : closeUp (before .rows) ≡ before .rows
   pub within : i ≤ deskRows
-  pub live : all (openOrInMinute clock) (take i (before .rows)) ≡ true
+  pub kept : all (openOrInMinute clock) (take i (before .rows)) ≡ true
   pub desk : after ≡ before
 
 -- an open row, or one cancelled in the minute
-module _ (clock : ℕ) (r : Row) (live : openOrInMinute clock r ≡ true) where
+module _ (clock : ℕ) (r : Row) (kept : openOrInMinute clock r ≡ true) where
   by-mark : (P : Type 0) → (r .mark ≡ openMark → P) → (r .mark ≡ cancelledMark → inMinute clock (r .«cancel_time») ≡ true → P) → P
   by-mark P at-open at-cancelled =
       ⊎-elim (λ e. at-open (eqb-true (r .mark) openMark e))
       (λ e. let parts = and-parts (eqb (r .mark) cancelledMark) (inMinute clock (r .«cancel_time»)) e in at-cancelled (eqb-true (r .mark) cancelledMark (parts .0)) (parts .1))
-      (or-cases (isOpen r) (cancelledInMinute clock r) live)
+      (or-cases (isOpen r) (cancelledInMinute clock r) kept)
 
-  pub live-marked : marked r ≡ true
-  live-marked = by-mark (marked r ≡ true) (λ m. rw m) (λ m t. rw m)
+  pub in-minute-marked : marked r ≡ true
+  in-minute-marked = by-mark (marked r ≡ true) (λ m. rw m) (λ m t. rw m)
 
-  live-stays : expiredRow clock r ≡ r
-  live-stays = by-mark (expiredRow clock r ≡ r) (λ m. rw m) (λ m t. rw (m, t))
+  in-minute-stays : expiredRow clock r ≡ r
+  in-minute-stays = by-mark (expiredRow clock r ≡ r) (λ m. rw m) (λ m t. rw (m, t))
 
 map-same : (f : Row → Row) (p : Row → Bool) → ((r : Row) → p r ≡ true → f r ≡ r) → (rows : List Row) → all p rows ≡ true → map f rows ≡ rows
 unfolding all
@@ -197,17 +197,17 @@ map-free f h (suc n) = ap₂ (λ (x : Row) (xs : List Row). x ∷ xs) h (map-fre
 module _ {clock : ℕ} {before : Desk} where
   pub placing-start : length (before .rows) ≡ deskRows → closeUp (before .rows) ≡ before .rows → Placing clock before before 0
   unfolding all
-  placing-start whole closed = record { whole = whole; closed = closed; within = omega arith; live = refl; desk = refl }
+  placing-start whole closed = record { whole = whole; closed = closed; within = omega arith; kept = refl; desk = refl }
 
   module _ {after : Desk} {i : ℕ} (c : Placing clock before after i) where
     pub placing-next : i < deskRows → (z : Row) {r : Row} → r ≡ getD (after .rows) i z → openOrInMinute clock r ≡ true → Placing clock before after (i + 1)
     unfolding all
-    placing-next h z {r} e live =
+    placing-next h z {r} e kept =
         let row : getD (before .rows) i z ≡ r = ap (λ (x : Desk). getD (x .rows) i z) (sym (c .desk)) ∙ sym e in
         let next : take (i + 1) (before .rows) ≡ take i (before .rows) ++ (r ∷ []) = take-next (before .rows) i z (omega (arith, c .whole)) ∙ ap (λ (x : Row). take i (before .rows) ++ (x ∷ [])) row in
-        record { whole = c .whole; closed = c .closed; within = omega arith; live = rw next (all-append (openOrInMinute clock) (take i (before .rows)) (r ∷ []) (c .live) (rw live)); desk = c .desk }
+        record { whole = c .whole; closed = c .closed; within = omega arith; kept = rw next (all-append (openOrInMinute clock) (take i (before .rows)) (r ∷ []) (c .kept) (rw kept)); desk = c .desk }
 
-    -- the rows before i are live, and those from i on are free: none goes, and i is the place of a new row
+    -- the rows before i are open or in their minute, and those from i on are free: none goes, and i is the place of a new row
     none-gone : drop i (before .rows) ≡ replicate (deskRows - i) freeRow → (r : Row)
         → withRows (set (after .rows) i r) after ≡ withRows (addedLast r (edited (expiredRow clock) (before .rows))) before
     unfolding edited
@@ -219,12 +219,12 @@ module _ {clock : ℕ} {before : Desk} where
         let same : map (expiredRow clock) rows ≡ rows =
         ap (map (expiredRow clock)) (sym split)
         ∙ map-append (expiredRow clock) front (replicate n freeRow)
-        ∙ ap₂ (λ (a b : List Row). a ++ b) (map-same (expiredRow clock) (openOrInMinute clock) (live-stays clock) front (c .live)) (map-free (expiredRow clock) refl n)
+        ∙ ap₂ (λ (a b : List Row). a ++ b) (map-same (expiredRow clock) (openOrInMinute clock) (in-minute-stays clock) front (c .kept)) (map-free (expiredRow clock) refl n)
         ∙ split in
         let marks : count marked rows ≡ i =
         ap (count marked) (sym split)
         ∙ count-append marked front (replicate n freeRow)
-        ∙ omega (arith, count-all marked front (all-weaken (openOrInMinute clock) marked (live-marked clock) front (c .live)), length-take-le i rows (omega (arith, c .whole, c .within)), count-replicate marked n freeRow refl) in
+        ∙ omega (arith, count-all marked front (all-weaken (openOrInMinute clock) marked (in-minute-marked clock) front (c .kept)), length-take-le i rows (omega (arith, c .whole, c .within)), count-replicate marked n freeRow refl) in
         ap (λ (x : Desk). withRows (set (x .rows) i r) x) (c .desk)
         ∙ ap (λ (k : ℕ). withRows (set rows k r) before) (sym marks)
         ∙ ap (λ l. withRows (addedLast r l) before) (sym (ap closeUp same ∙ c .closed))
@@ -233,7 +233,7 @@ module _ {clock : ℕ} {before : Desk} where
         → withRows (set (after .rows) i r) after ≡ withRows (addedLast r (edited (expiredRow clock) (before .rows))) before
     placing-free h z free r =
         let mark : getD (before .rows) i z .mark ≡ freeMark = ap (λ (x : Desk). getD (x .rows) i z .mark) (sym (c .desk)) ∙ free in
-        none-gone (free-from (before .rows) (c .closed) i z mark ∙ ap (λ (m : ℕ). replicate (m - i) freeRow) (c .whole)) r
+        none-gone (free-rows-from (before .rows) (c .closed) i z mark ∙ ap (λ (m : ℕ). replicate (m - i) freeRow) (c .whole)) r
 
     pub placing-full : deskRows ≤ i → (r : Row) → after ≡ withRows (addedLast r (edited (expiredRow clock) (before .rows))) before
     placing-full h r =

@@ -89,7 +89,7 @@ pub fn added(clock: u32, o: Order, d: Desk) -> Desk
     after
 }
 
-// Where rows go.
+// The same where a row was cancelled more than 60,000 ms ago.
 fn added_last(clock: u32, last: Row, d: Desk) -> Desk
     ensures { λ r. ⌜ r ≡ withRows (addedLast last (edited (expiredRow clock) (d .rows))) d ⌝ }
 {

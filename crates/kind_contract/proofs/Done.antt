@@ -4,17 +4,13 @@ use mathlib.Core.List.{List}
 use mathlib.Core.Path.{_≡_, ap, sym, _∙_}
 use Prim.Native.Nat.{ℕ}
 use Rattle.definitions.specs.declared.Security.{Security}
-use Rattle.definitions.specs.declared.Row.{Row}
-use Rattle.definitions.specs.declared.Desk.{Desk}
 use Rattle.definitions.specs.declared.Event.{Event}
 use Rattle.definitions.specs.declared.Answer.{Answer}
 use Rattle.definitions.specs.declared.Answer.the-variants as answer
-use Rattle.definitions.specs.State.{securityAt, deskAt, putSecurity, putDesk}
-use Rattle.definitions.specs.Gate.{done, resultOf, changeSecurity, changeDesk, perform}
+use Rattle.definitions.specs.State.{securityAt, putSecurity}
+use Rattle.definitions.specs.Gate.{done, resultOf, changeSecurity, perform}
 use Rattle.kind_contract.specs.First.{laterRefusal, laterOutcome}
 use Rattle.kind_contract.proofs.Laws.{later-done}
-use mathlib.Core.Bool.{Bool}
-use Rattle.definitions.specs.Lists.{any}
 
 -- an answer and the words after it
 abbrev pub Left : Type 0
@@ -29,11 +25,3 @@ module _ (w : List ℕ) (e : Event) (none : laterRefusal w e ≡ 0) where
   pub security-done : (f : Security → Security) (s : ℕ) → perform w e ≡ done answer.Ok (changeSecurity f s w) → {x y : Security} {v : List ℕ}
       → x ≡ securityAt w s → y ≡ f x → v ≡ putSecurity w s y → _≡_ {A = Left} (answer.Ok, v) (resultOf w (laterOutcome w e))
   security-done f s does ex ey ev = words-done answer.Ok does (ev ∙ ap (putSecurity w s) (ey ∙ ap f ex))
-
-  pub desk-done : (f : Desk → Desk) (k : ℕ) (a : Answer) → perform w e ≡ done a (changeDesk f k w) → {d y : Desk} {v : List ℕ}
-      → d ≡ deskAt w k → y ≡ f d → v ≡ putDesk w k y → _≡_ {A = Left} (a, v) (resultOf w (laterOutcome w e))
-  desk-done f k a does ed ey ev = words-done a does (ev ∙ ap (putDesk w k) (ey ∙ ap f ed))
-
--- what a row's question says of the desk in the words, asked of the desk that was taken out
-pub row-found : (w : List ℕ) (k : ℕ) (p : Row → Bool) {d : Desk} {t : Bool} → d ≡ deskAt w k → t ≡ any p (d .rows) → any p (deskAt w k .rows) ≡ t
-row-found w k p ed et = sym (et ∙ ap (λ (y : Desk). any p (y .rows)) ed)

@@ -32,7 +32,7 @@ use Rattle.state_records.specs.declared.search.RowAt.{RowAt}
 use Rattle.state_records.specs.Search.{rowWith}
 use Rattle.state_records.proofs.SearchLaws.{found-most, found-there, found-numbered}
 use Rattle.desks.proofs.Laws.{none-other}
-use Rattle.desks.proofs.ClosedUp.{live-marked}
+use Rattle.desks.proofs.ClosedUp.{in-minute-marked}
 use Rattle.kind_contract.specs.First.{Ready, laterRefusal, laterOutcome}
 use Rattle.kind_contract.proofs.Laws.{unmet-first, later-refused, later-done, desk-sound, desk-closed}
 use Rattle.kind_contract.proofs.Done.{Left}
@@ -99,10 +99,10 @@ module _ (w : List ℕ) (k : ℕ) (o : Order) (ready : Ready w (event.Order k o)
         rw ed (sym (none-other (openOrInMinute (h .clock)) rows (length-desk-rows w k) (sym some)))
       where
         -- a marked row that was found has the number, and none that has it is open or in its minute
-        gone : (live : Bool) → openOrInMinute (h .clock) (at .row) ≡ live → live ≡ false
+        gone : (t : Bool) → openOrInMinute (h .clock) (at .row) ≡ t → t ≡ false
         gone false is = refl
         gone true is =
-            let has = and-parts (marked (at .row)) (eqb (at .row .number) (o .number)) (found-numbered (o .number) (deskAt w k .rows) ea (live-marked (h .clock) (at .row) is)) .1 in
+            let has = and-parts (marked (at .row)) (eqb (at .row .number) (o .number)) (found-numbered (o .number) (deskAt w k .rows) ea (in-minute-marked (h .clock) (at .row) is)) .1 in
             never (and-whole is has) (sym et ∙ new)
 
     -- with a verdict

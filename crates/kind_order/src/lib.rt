@@ -29,7 +29,7 @@ pub fn handle(words: &mut [u32], k: u32, o: Order) -> Answer
         state_records::put_desk(words, k, desk_counters::counted(v, d));
         return Answer::Verdict(v);
     }
-    // A desk with a free row is not full. The search ends past the last row where there is none.
+    // Where the search ended at a row, that row is free or was cancelled more than a minute ago, and the desk is not full.
     if found.place == DESK_ROWS && desks::full(m.clock, d) {
         return Answer::Refused(12);
     }

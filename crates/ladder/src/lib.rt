@@ -201,18 +201,18 @@ fn stepped(position: u32) -> u32
 fn on_step(price: u32) -> bool
     ensures { λ r. ⌜ r ≡ onStep (bandOfPrice price) price ⌝ }
 {
-    // The band of the benchmark's prices comes first, so that those above it are not asked for them.
-    if (2_500 <= price) & (price < 10_000) {
-        return (price - 2_500) % 25 == 0;
-    }
-    if 40_000 <= price {
-        return (price - 40_000) % 200 == 0;
-    }
-    if 20_000 <= price {
-        return (price - 20_000) % 100 == 0;
-    }
+    // The bands above 100.00 baht and those below are asked apart, so that no price passes seven tests.
     if 10_000 <= price {
+        if 40_000 <= price {
+            return (price - 40_000) % 200 == 0;
+        }
+        if 20_000 <= price {
+            return (price - 20_000) % 100 == 0;
+        }
         return (price - 10_000) % 50 == 0;
+    }
+    if 2_500 <= price {
+        return (price - 2_500) % 25 == 0;
     }
     if 1_000 <= price {
         return (price - 1_000) % 10 == 0;

@@ -8,7 +8,6 @@ use mathlib.Core.Path.{_≡_, refl, ap, sym, _∙_}
 use Prim.Native.Nat.{ℕ, _<_}
 use native.Mathlib.Omega.{arith}
 use lib.Dec.{eqb}
-use lib.ListN.{length}
 use borrow.Author.Tests.{eqb-true}
 use Rattle.definitions.specs.declared.Row.{Row}
 use Rattle.definitions.specs.declared.Event.{Event}
@@ -27,7 +26,7 @@ use Rattle.state_records.specs.declared.search.RowAt.{RowAt}
 use Rattle.state_records.specs.Search.{rowWith}
 use Rattle.state_records.proofs.SearchLaws.{found-there, found-place, found-any, changed-at-place}
 use Rattle.desks.specs.Place.{changedAt}
-use Rattle.desks.proofs.ClosedUp.{live-marked}
+use Rattle.desks.proofs.ClosedUp.{in-minute-marked}
 use Rattle.desks.proofs.AtPlace.{one-changed}
 use Rattle.kind_contract.specs.First.{laterRefusal, laterOutcome}
 use Rattle.kind_contract.proofs.Laws.{desk-sound, desk-closed}
@@ -42,7 +41,7 @@ pub other-not-open : (number : ℕ) (r : Row) → numbered number r ≡ false �
 other-not-open number r = other number r (isOpen r) (λ t. rw (eqb-true (r .mark) openMark t))
 
 pub other-not-held : (clock number : ℕ) (r : Row) → numbered number r ≡ false → holdsNumber clock number r ≡ false
-other-not-held clock number r = other number r (openOrInMinute clock r) (live-marked clock r)
+other-not-held clock number r = other number r (openOrInMinute clock r) (in-minute-marked clock r)
 
 module _ (w : List ℕ) (e : Event) (read : not (recordsSound w e) ≡ false) (k : ℕ) (own : customerNamed e ≡ one k) (number : ℕ) {at : RowAt} (ea : at ≡ rowWith number (deskAt w k .rows)) where
   abbrev rows : List Row

@@ -144,7 +144,7 @@ module _ (number : ℕ) (rows : List Row) {at : RowAt} (e : at ≡ rowWith numbe
     changed-at-place f h = rw e (map-found number f h rows first differ)
 
 -- a row's number and mark where they stand in the words
-row-word : (w : List ℕ) (i n : ℕ) → n < rowSize → getD (take rowSize (drop (rowSize * i) w)) n 0 ≡ getD w (rowSize * i + n) 0
+pub row-word : (w : List ℕ) (i n : ℕ) → n < rowSize → getD (take rowSize (drop (rowSize * i) w)) n 0 ≡ getD w (rowSize * i + n) 0
 row-word w i n h = getD-take rowSize (drop (rowSize * i) w) n 0 h ∙ getD-drop (rowSize * i) w n 0
 
 row-ends : (number : ℕ) (w : List ℕ) (i : ℕ)

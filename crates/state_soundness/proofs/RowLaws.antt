@@ -11,7 +11,7 @@ use native.Mathlib.Omega.{arith}
 use lib.Bits.{bitOr, or-add-and, and-le-l, and-le-r}
 use lib.Dec.{ltb, eqb}
 use lib.ListN.{length, getD, take, drop, replicate, length-drop}
-use lib.Seq.{take-all, drop-drop, getD-take, getD-drop}
+use lib.Seq.{take-all, drop-drop}
 use borrow.Author.Tests.{lt-ltb, le-ltb, ltb-true, ne-eqb, eq-eqb, eqb-true, not-true, not-false}
 use Rattle.definitions.specs.declared.Row.{Row}
 use Rattle.definitions.specs.Codes.{deskRows}
@@ -26,6 +26,7 @@ use Rattle.definitions.proofs.Tests.{never, and-parts, and-whole, and-second, o
 use Rattle.definitions.proofs.Rows.{all-append, differ-last, all-weaken, any-append}
 use Rattle.definitions.proofs.SoundRow.{marked-true, zero-free, state-marked, unmarked-free}
 use Rattle.definitions.proofs.SoundDesk.{sound-closed}
+use Rattle.state_records.proofs.SearchLaws.{row-word}
 use Rattle.state_soundness.specs.Tested.{equals, hasNumber, follows, Leading, soundRows}
 use Rattle.state_records.proofs.Laws.{part-is, rows-suc}
 
@@ -77,30 +78,30 @@ rows-split (suc n) m w =
 
 row-number : (i : ℕ) (w : List ℕ) → rowOf (take rowSize (drop (rowSize * i) w)) .number ≡ getD w (rowSize * i + 1) 0
 unfolding rowOf
-row-number i w = getD-take rowSize (drop (rowSize * i) w) 1 0 (omega arith) ∙ getD-drop (rowSize * i) w 1 0
+row-number i w = row-word w i 1 (omega arith)
 
 -- a loop that looks for a number among the first rows
-pub record Passed (w : List ℕ) (count number i : ℕ) : Type 0 where
+pub record NoneSoFar (w : List ℕ) (count number i : ℕ) : Type 0 where
   pub none : any (hasNumber number) (rowsOf i w) ≡ false
   pub to : i ≤ count
 
-pub passed-none : {w : List ℕ} {count number : ℕ} → Passed w count number 0
+pub none-start : {w : List ℕ} {count number : ℕ} → NoneSoFar w count number 0
 unfolding rowsOf any
-passed-none = record { none = refl; to = omega arith }
+none-start = record { none = refl; to = omega arith }
 
-module _ {w : List ℕ} {count number i : ℕ} (inv : Passed w count number i) where
-  pub passed-next : i < count → (getD w (rowSize * i + 1) 0 ≡ number → ⊥) → Passed w count number (i + 1)
+module _ {w : List ℕ} {count number i : ℕ} (inv : NoneSoFar w count number i) where
+  pub none-next : i < count → (getD w (rowSize * i + 1) 0 ≡ number → ⊥) → NoneSoFar w count number (i + 1)
   unfolding any
-  passed-next h other =
+  none-next h other =
       let differs : hasNumber number (rowOf (take rowSize (drop (rowSize * i) w))) ≡ false = ne-eqb _ _ (λ e. other (sym (row-number i w) ∙ e)) in
       record {
         none = rw (add-one i, rows-suc i w, any-append (hasNumber number) (rowsOf i w) (rowOf (take rowSize (drop (rowSize * i) w)) ∷ []), inv .none, differs);
         to = omega arith;
       }
 
-  pub passed-found : i < count → getD w (rowSize * i + 1) 0 ≡ number → true ≡ any (hasNumber number) (rowsOf count w)
+  pub none-found : i < count → getD w (rowSize * i + 1) 0 ≡ number → true ≡ any (hasNumber number) (rowsOf count w)
   unfolding any rowsOf
-  passed-found h this =
+  none-found h this =
       let left : ℕ = count - i - 1 in
       let whole : count ≡ i + suc left = omega arith in
       let rest : List ℕ = drop (rowSize * i) w in
@@ -110,8 +111,8 @@ module _ {w : List ℕ} {count number i : ℕ} (inv : Passed w count number i) w
       ∙ any-append (hasNumber number) (rowsOf i w) (rowsOf (suc left) rest)
       ∙ rw (inv .none, found))
 
-  pub passed-end : count ≤ i → false ≡ any (hasNumber number) (rowsOf count w)
-  passed-end h = let end : i ≡ count = omega (arith, inv .to) in sym (rw end at (inv .none))
+  pub none-end : count ≤ i → false ≡ any (hasNumber number) (rowsOf count w)
+  none-end h = let end : i ≡ count = omega (arith, inv .to) in sym (rw end at (inv .none))
 
 -- the rows that lead, as a loop passes them: none has a number above the largest
 abbrev above : ℕ → Row → Bool

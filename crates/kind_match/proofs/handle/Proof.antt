@@ -2,14 +2,13 @@
 -- Assumes nothing.
 use mathlib.Core.Bool.{true, false}
 use mathlib.Core.Logic.{_⊎_, inl, inr}
-use mathlib.Core.Path.{_≡_, refl, ap, sym, _∙_}
+use mathlib.Core.Path.{_≡_, refl, sym}
 use Prim.Native.Nat.{ℕ}
 use borrow.Author.Needs.{needs}
 use borrow.Author.Tests.{eq-eqb, ne-eqb, lt-ltb, le-ltb}
 use Rattle.definitions.specs.declared.Row.{Row}
 use Rattle.definitions.specs.declared.Event.the-variants as event
-use Rattle.definitions.specs.Lists.{any, firstMet}
-use Rattle.definitions.specs.State.{deskAt}
+use Rattle.definitions.specs.Lists.{firstMet}
 use Rattle.definitions.specs.Sound.{marked, numbered}
 use Rattle.definitions.specs.Desks.{freeRow, openWith, matchedRow}
 use Rattle.definitions.specs.Refusals.{openBelow}

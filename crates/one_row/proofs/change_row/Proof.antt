@@ -16,7 +16,7 @@ returns c =
     let taken = c .before .before .before .before .before .desk-at in
     c .before .before .put-desk .ensures
     ∙ ap (putDesk (s .args .words .now) (s .args .k))
-    (c .before .before .before .changed-at .ensures ∙ ap (λ (d : Desk). withRows (changedAt (s .args .place) (s .args .row) (d .rows)) d) (taken .ensures))
+    (c .before .before .before .changed-at .ensures ∙ ap (λ (d : Desk). withRows (changedAt (s .args .place) (s .args .left) (d .rows)) d) (taken .ensures))
 
 pub change-row-spec : {M : Type 1} → statement M
 change-row-spec =
