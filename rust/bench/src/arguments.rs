@@ -6,7 +6,7 @@ use crate::size::Size;
 
 pub const USAGE: &str = "\
 usage: bench [--repeats N] [--at CUSTOMERS,SECURITIES,ROWS] [--only NAME] [MIXTURE ..]
-  --repeats N    time each list so often (51)
+  --repeats N    time each list so often, 1 to 100000 times (51)
   --at C,S,R     one line a mixture, with so many customers (1 to 256), securities
                  (1 to 1024) and open rows on every desk (0 to 31)
   --only NAME    time only gate, second or tuned, and compare nothing, so that it
@@ -16,6 +16,8 @@ usage: bench [--repeats N] [--at CUSTOMERS,SECURITIES,ROWS] [--only NAME] [MIXTU
 
 /// Odd, so that there is a median.
 const REPEATS: usize = 51;
+/// All times of a list are kept until its median is taken.
+const MAX_REPEATS: usize = 100_000;
 
 #[derive(Clone, Debug, PartialEq, Eq)]
 pub struct Arguments {
@@ -33,16 +35,21 @@ impl Arguments {
             at: None,
             mixtures: Vec::new(),
         };
+        let mut only = None;
         let mut words = words.into_iter();
         while let Some(word) = words.next() {
             let mut value = || words.next().ok_or(format!("{word} needs a value"));
             match word.as_str() {
                 "--repeats" => arguments.repeats = repeats(&value()?)?,
                 "--at" => arguments.at = Some(value()?.parse()?),
-                "--only" => arguments.implementations = vec![implementation(&value()?)?],
+                "--only" if only.is_some() => return Err(String::from("--only is given twice")),
+                "--only" => only = Some(implementation(&value()?)?),
                 _ if word.starts_with('-') => return Err(format!("unknown argument {word:?}")),
                 _ => arguments.mixtures.push(mixture(&word)?),
             }
+        }
+        if let Some(only) = only {
+            arguments.implementations = vec![only];
         }
         arguments.check_sizes()?;
         Ok(arguments)
@@ -78,8 +85,10 @@ impl Arguments {
 
 fn repeats(word: &str) -> Result<usize, String> {
     match word.parse() {
-        Ok(repeats) if repeats > 0 => Ok(repeats),
-        _ => Err(format!("{word:?}: expected a number of repeats, 1 or more")),
+        Ok(repeats) if (1..=MAX_REPEATS).contains(&repeats) => Ok(repeats),
+        _ => Err(format!(
+            "{word:?}: expected a number of repeats, 1 to {MAX_REPEATS}"
+        )),
     }
 }
 
@@ -127,6 +136,11 @@ mod tests {
     }
 
     #[test]
+    fn the_most_repeats() {
+        assert_eq!(parse("--repeats 100000").unwrap().repeats, 100_000);
+    }
+
+    #[test]
     fn a_mixture_that_the_size_leaves_nothing_of() {
         let arguments = parse("--at 1,1,0").unwrap();
         assert_eq!(arguments.sizes(Mixture::CancelMatch), []);
@@ -155,14 +169,24 @@ mod tests {
             ("--repeats", "--repeats needs a value"),
             (
                 "--repeats 0",
-                "\"0\": expected a number of repeats, 1 or more",
+                "\"0\": expected a number of repeats, 1 to 100000",
             ),
             (
                 "--repeats many",
-                "\"many\": expected a number of repeats, 1 or more",
+                "\"many\": expected a number of repeats, 1 to 100000",
+            ),
+            (
+                "--repeats 100001",
+                "\"100001\": expected a number of repeats, 1 to 100000",
+            ),
+            (
+                "--repeats 1000000000000",
+                "\"1000000000000\": expected a number of repeats, 1 to 100000",
             ),
             ("--only", "--only needs a value"),
             ("--only first", "\"first\": expected gate, second or tuned"),
+            ("--only gate --only tuned", "--only is given twice"),
+            ("--only gate --only gate", "--only is given twice"),
             ("--at", "--at needs a value"),
         ];
         for (line, message) in expected {

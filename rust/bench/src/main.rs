@@ -16,11 +16,18 @@ use std::process::ExitCode;
 
 use arguments::{Arguments, USAGE};
 use compare::compare;
+use implementation::Implementation;
 use measure::measure;
 use mixture::Mixture;
 use table::Table;
 
 const MEASURED: &str = include_str!("measured.txt");
+
+const SEVERAL: &str = "\
+The linked gate, the second implementation and the tuned one take turns at the
+same lists of events. Before a list is timed, each answer to it and all words
+after it are compared.
+";
 
 fn main() -> ExitCode {
     let arguments = match Arguments::parse(env::args().skip(1)) {
@@ -46,11 +53,20 @@ fn print(arguments: &Arguments) -> Result<(), String> {
     let table = Table {
         implementations: arguments.implementations.clone(),
     };
-    println!("{MEASURED}Repeats: {}\n", arguments.repeats);
+    let compared = compared(&arguments.implementations);
+    println!("{compared}{MEASURED}Repeats: {}\n", arguments.repeats);
     println!("{}", table.heading());
     arguments
         .mixtures()
         .try_for_each(|mixture| print_mixture(&table, arguments, mixture))
+}
+
+/// What the first lines say of those that are timed.
+fn compared(implementations: &[Implementation]) -> String {
+    match implementations {
+        [alone] => format!("Only {} is timed, and nothing is compared.\n", alone.name()),
+        _ => String::from(SEVERAL),
+    }
 }
 
 fn print_mixture(table: &Table, arguments: &Arguments, mixture: Mixture) -> Result<(), String> {

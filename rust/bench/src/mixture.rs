@@ -109,6 +109,8 @@ impl Mixture {
 
 #[cfg(test)]
 mod tests {
+    use std::ops::Range;
+
     use second::answer::{Answer, Rule};
     use second::gate;
     use second::state::{Desk, Header};
@@ -226,6 +228,32 @@ mod tests {
             assert_eq!(count(&list, 5, Answer::Accept), 500);
             assert_eq!(count(&list, 5, Answer::Warn10), 500);
             assert_eq!(count(&list, 7, Answer::Ok), 1_000);
+        }
+    }
+
+    /// Does an open row stand in the band from 10.00, 25.00, 100.00, 400.00 baht?
+    fn bands(list: &List) -> [bool; 4] {
+        let desks = desks(&list.start);
+        let has = |range: Range<u32>| {
+            let mut rows = desks.iter().flat_map(|desk| desk.rows());
+            rows.any(|row| range.contains(&row.price))
+        };
+        [
+            10_00..25_00,
+            25_00..100_00,
+            100_00..200_00,
+            400_00..10_000_000,
+        ]
+        .map(has)
+    }
+
+    #[test]
+    fn prices_stand_in_four_bands() {
+        for mixture in Mixture::ALL {
+            let list = mixture.prepare(size(16, 10));
+            assert_eq!(bands(&list), [true; 4], "{mixture:?}");
+            let list = mixture.prepare("16,1,10".parse().unwrap());
+            assert_eq!(bands(&list), [false, true, false, false], "{mixture:?}");
         }
     }
 

@@ -1,5 +1,6 @@
 //! Writes the events of a list, and knows the open orders.
 
+mod level;
 mod rounds;
 
 use second::encode;
@@ -8,6 +9,7 @@ use second::state::{CANCEL_MEMORY, ROWS};
 
 use crate::list::{List, Recorder};
 use crate::size::Size;
+use level::Level;
 
 const OPENING: u32 = 36_000_000;
 /// So much later every cancel so far is forgotten.
@@ -117,25 +119,27 @@ impl Writer {
 
     /// Of every other security between two steps, where it is a reference.
     fn prior_close(&self, security: u16) -> u32 {
+        let Level { price, step } = Level::of(security);
         match self.session {
-            PRE_OPEN => 50_00 + 10 * u32::from(security % 2),
-            _ => 50_00,
+            PRE_OPEN => price + step / 2 * u32::from(security % 2),
+            _ => price,
         }
     }
 
     /// Before the opening there is no last sale yet.
     fn prices(&mut self, security: u16, board: u8) {
+        let level = Level::of(security);
         let last = match self.session {
             PRE_OPEN => 0,
-            _ => 49_75 + 25 * self.below(3),
+            _ => level.bid() + level.step * self.below(3),
         };
         self.add(encode::prices(&Prices {
             security,
             board,
             projected: 0,
             last,
-            bid: 49_75,
-            offer: 50_25,
+            bid: level.bid(),
+            offer: level.offer(),
         }));
     }
 
@@ -143,19 +147,22 @@ impl Writer {
     fn order(&mut self, customer: u16) -> Order {
         self.number += 1;
         let side = self.below(2) as u8;
-        let away = 25 * self.below(8);
+        let steps = self.below(8);
+        let security = self.security();
+        let level = Level::of(security);
+        let away = steps * level.step;
         Order {
             customer,
             number: self.number,
-            security: self.security(),
+            security,
             board: self.below(2) as u8,
             side,
             order_type: LIMIT,
             channel: self.below(3) as u8,
             price: if side == BUY {
-                49_75 - away
+                level.bid() - away
             } else {
-                50_25 + away
+                level.offer() + away
             },
             volume: 100 + self.below(900),
         }
@@ -201,7 +208,7 @@ impl Writer {
     }
 
     /// One that meets an own row (W), has no volume (V) or is out of its session
-    /// (S), in turn.
+    /// (S), each as often as the others, about.
     fn rejected(&mut self, customer: u16) -> Order {
         let order = self.order(customer);
         let place = self.open_place(customer);

@@ -22,7 +22,15 @@ fn table(line: &str) -> Vec<String> {
 
 #[test]
 fn bad_arguments_fail_with_the_usage() {
-    for line in ["orders", "--at 16,64", "--repeats 0", "--only it", "--only"] {
+    for line in [
+        "orders",
+        "--at 16,64",
+        "--repeats 0",
+        "--repeats 1000000000000",
+        "--only it",
+        "--only",
+        "--only gate --only gate",
+    ] {
         let output = bench(line);
         assert_eq!(output.status.code(), Some(1), "{line}");
         assert!(output.stdout.is_empty(), "{line}");
@@ -45,6 +53,22 @@ fn one_size_of_two_mixtures() {
     assert_eq!(columns[2][..5], ["session", "2", "3", "31", "20"]);
     // Three times and two ratios.
     assert_eq!(columns[1].len(), 10);
+}
+
+#[test]
+fn what_is_said_of_those_that_are_timed() {
+    for (line, first) in [
+        ("", "The linked gate, the second implementation and"),
+        (
+            "--only tuned",
+            "Only tuned is timed, and nothing is compared.",
+        ),
+    ] {
+        let output = bench(&format!("{line} --repeats 1 --at 1,1,0 session"));
+        let text = String::from_utf8(output.stdout).unwrap();
+        assert!(text.starts_with(first), "{text}");
+        assert_eq!(text.contains("take turns"), line.is_empty(), "{text}");
+    }
 }
 
 #[test]

@@ -136,7 +136,7 @@ pub fn first_unlike(one: &[u32], other: &[u32]) -> Option<usize> {
 pub struct Comparison {
     gate: Lent,
     /// Those of each of the others, in the order of `Other::ALL`.
-    others: [Vec<u32>; 2],
+    others: [Vec<u32>; Other::ALL.len()],
     /// As the last event that was not refused left them.
     before: Vec<u32>,
 }

@@ -67,8 +67,8 @@ fn is_sound(row: &Row, securities: u32, clock: u32) -> bool {
 }
 
 /// Of a sound marked row: open, or cancelled at most 60,000 ms ago.
-pub fn is_live(row: &Row, clock: u32) -> bool {
-    // Both are asked: which rows are open follows no pattern, which are live does.
+pub fn is_open_or_in_minute(row: &Row, clock: u32) -> bool {
+    // Both are asked: which rows are open follows no pattern, which are either does.
     (row[MARK] == OPEN) | (clock - row[CANCEL_TIME] <= CANCEL_MEMORY)
 }
 

@@ -3,8 +3,9 @@
 //!
 //! Records are tested and changed where they stand in the lent words. Every kind
 //! goes through the paper's table from top to bottom and writes after its last
-//! check, no record as a whole. A refusal stands by its number in that table, an
-//! answer by the library's number.
+//! check, no record as a whole; but kind 5 asks condition 12 after it has removed
+//! old cancelled rows, and none were removed where it is met. A refusal stands by
+//! its number in that table, an answer by the library's number.
 
 mod desk;
 mod ladder;

@@ -1,9 +1,9 @@
 //! Kind 5.
 
-use super::desk::{is_live, marked, parts, retain};
+use super::desk::{is_open_or_in_minute, marked, parts, retain};
 use super::ladder::is_legal;
 use super::layout::*;
-use super::rules::{ACCEPT, Scene, WARN_10, WARN_30};
+use super::rules::{ACCEPT, View, WARN_10, WARN_30};
 use super::{refuse_unless, security};
 
 pub fn screen(state: State, body: &[u8; 20]) -> Result<u32, u32> {
@@ -16,9 +16,9 @@ pub fn screen(state: State, body: &[u8; 20]) -> Result<u32, u32> {
     refuse_unless(security::is_sound(security), 8)?;
     let marked = marked(desk, securities, clock).ok_or(8_u32)?;
     let (counters, rows) = parts(desk);
-    let is_taken = |row: &Row| row[NUMBER] == order[NUMBER] && is_live(row, clock);
+    let is_taken = |row: &Row| row[NUMBER] == order[NUMBER] && is_open_or_in_minute(row, clock);
     refuse_unless(!rows[..marked].iter().any(is_taken), 9)?;
-    let scene = Scene {
+    let view = View {
         session: *state.session,
         clock,
         security,
@@ -26,15 +26,15 @@ pub fn screen(state: State, body: &[u8; 20]) -> Result<u32, u32> {
         order: &order,
         channel,
     };
-    let verdict = scene.verdict();
+    let verdict = view.verdict();
     let counter = match verdict {
         ACCEPT => 0,
         WARN_30 | WARN_10 => 1,
         _ => 2,
     };
     if counter < 2 {
-        // Where all 32 are kept, no word has changed yet.
-        let kept = retain(&mut rows[..marked], |row| is_live(row, clock));
+        // Condition 12 is that all 32 are kept, and then no word has changed.
+        let kept = retain(&mut rows[..marked], |row| is_open_or_in_minute(row, clock));
         *rows.get_mut(kept).ok_or(12_u32)? = order;
     }
     counters[counter] = counters[counter].saturating_add(1);

@@ -1,6 +1,6 @@
 //! The verdict on an order that is not refused.
 
-use super::desk::is_live;
+use super::desk::is_open_or_in_minute;
 use super::ladder::positions;
 use super::layout::*;
 
@@ -29,7 +29,7 @@ const FRONT_OFFICE: u32 = 0;
 const ONLINE: u32 = 1;
 
 /// An order and what it meets.
-pub struct Scene<'a> {
+pub struct View<'a> {
     pub session: u32,
     pub clock: u32,
     /// The order's security.
@@ -41,7 +41,7 @@ pub struct Scene<'a> {
     pub channel: u32,
 }
 
-impl Scene<'_> {
+impl View<'_> {
     pub fn verdict(&self) -> u32 {
         let is_limit = self.order[TYPE] == LIMIT;
         let is_open = self.session == OPEN_SESSION;
@@ -159,7 +159,7 @@ impl Scene<'_> {
     fn is_repeat(&self) -> bool {
         let is_like = |row: &Row| {
             row[MARK] == CANCELLED
-                && is_live(row, self.clock)
+                && is_open_or_in_minute(row, self.clock)
                 && row[SECURITY] == self.order[SECURITY]
                 && row[BOARD] == self.order[BOARD]
                 && row[SIDE] == self.order[SIDE]

@@ -7,6 +7,7 @@ use second::answer::Answer;
 use second::encode;
 use second::event::Order;
 
+use super::level::Level;
 use super::{BUY, MAIN, MP, ONLINE, OPEN, PRE_OPEN, Writer};
 use crate::mixture::Mixture;
 
@@ -48,8 +49,9 @@ impl Writer {
     /// close and one further away, and two matches that remove a row each.
     fn pre_open(&mut self) {
         let customer = self.customer();
-        for away in [0, 11 * 25] {
+        for steps in [0, 11] {
             let order = self.order(customer);
+            let away = steps * Level::of(order.security).step;
             let price = match order.side {
                 BUY => order.price - away,
                 _ => order.price + away,
