@@ -21,7 +21,7 @@
  * little-endian there, as the fields of events are everywhere: words that are
  * kept in a file can be lent again by any program on such a machine.
  *
- * A call takes less than GUVONTSIRA_STACK_BYTES of the caller's stack: 8,544
+ * A call takes less than GUVONTSIRA_STACK_BYTES of the caller's stack: 9,312
  * measured, for a limit order before the opening. A lazy dynamic linker that
  * looks up memcpy during a call takes its own on top, some hundred bytes.
  */
