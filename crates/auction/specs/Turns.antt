@@ -1,0 +1,26 @@
+-- What the two loops have done after some of their turns.
+use mathlib.Core.List.{List, [], _∷_, _++_, map}
+use Prim.Native.Nat.{ℕ}
+use lib.ListN.{take, drop}
+use Rattle.auction_definitions.specs.declared.AuctionOrder.{AuctionOrder}
+use Rattle.auction_definitions.specs.declared.Line.{Line}
+use Rattle.auction_definitions.specs.Auction.{placeLine}
+use Rattle.auction_lines.specs.Lines.{betterOf, withOrder}
+
+-- read past the list's end
+abbrev pub noOrder : AuctionOrder
+noOrder = record { side = 0; price = 0; volume = 0 }
+
+-- a line with the orders added, one after another
+unfoldable pub lineAfter : Line → List AuctionOrder → Line
+lineAfter l [] = l
+lineAfter l (o ∷ os) = lineAfter (withOrder l o) os
+
+-- the better line so far, after the places of some of the orders
+unfoldable pub bestAfter : ℕ → List AuctionOrder → Line → List AuctionOrder → Line
+bestAfter reference orders best [] = best
+bestAfter reference orders best (o ∷ os) = bestAfter reference orders (betterOf reference (placeLine orders o) best) os
+
+-- a scratch list with the sums of the first places
+unfoldable pub filledTo : (Line → ℕ) → List AuctionOrder → ℕ → List ℕ → List ℕ
+filledTo sum orders i scratch = map (λ o. sum (placeLine orders o)) (take i orders) ++ drop i scratch

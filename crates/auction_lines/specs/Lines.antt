@@ -1,0 +1,31 @@
+-- What the loops over candidates and orders are told of one line.
+use mathlib.Core.Bool.{Bool, true, false, cond, _&&_}
+use Prim.Native.Nat.{ℕ, _+_}
+use lib.Dec.{ltb}
+use Rattle.auction_definitions.specs.declared.AuctionOrder.{AuctionOrder}
+use Rattle.auction_definitions.specs.declared.Line.{Line}
+use Rattle.auction_definitions.specs.declared.AuctionAnswer.{AuctionAnswer}
+use Rattle.auction_definitions.specs.declared.AuctionAnswer.the-variants.{Price, None, Refused}
+use Rattle.auction_definitions.specs.Auction.{beats, buysAt, sellsAt, volumeOf}
+use lib.Dec.{eqb}
+use mathlib.Core.Bool.{not}
+
+-- before any order is added
+abbrev pub emptyLine : ℕ → Line
+emptyLine p = record { price = p; buyers = 0; sellers = 0 }
+
+-- what an order adds to a sum; price 0, of an ATO or ATC, is no candidate, and its sums stay 0
+abbrev pub addedAt : ℕ → Bool → ℕ → ℕ
+addedAt p counted volume = cond (not (eqb p 0) && counted) volume 0
+
+-- the line with one order more
+unfoldable pub withOrder : Line → AuctionOrder → Line
+withOrder l o =
+    record { price = l .price; buyers = l .buyers + addedAt (l .price) (buysAt (l .price) o) (o .volume); sellers = l .sellers + addedAt (l .price) (sellsAt (l .price) o) (o .volume) }
+
+abbrev pub betterOf : ℕ → Line → Line → Line
+betterOf reference l best = cond (beats reference l best) l best
+
+-- the answer where the last line left has volume, and where a bad order was met
+unfoldable pub answerOf : Bool → Line → AuctionAnswer
+answerOf bad best = cond bad (Refused 15) (cond (ltb 0 (volumeOf best)) (Price (best .price) (volumeOf best)) None)
