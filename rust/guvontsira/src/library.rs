@@ -1,10 +1,30 @@
-//! The library's eleven functions over slices, with its bare numbers. All unsafe
+//! The library's twelve functions over slices, with its bare numbers. All unsafe
 //! code of the crate is here.
 //!
 //! Every function is total: any words and any bytes may be handed in, and a
 //! refusal changes no word. What a C caller owes beside that, the types of a
 //! slice already say: it is valid for its length, and while it is borrowed
 //! here nobody else writes it and no other slice overlaps it.
+
+/// An order of an auction's list, with its bare numbers: side 0 buy, 1 sell;
+/// price in satang, 0 for ATO or ATC; volume in shares.
+#[repr(C)]
+#[derive(Clone, Copy, Debug, PartialEq, Eq)]
+pub struct AuctionOrder {
+    pub side: u32,
+    pub price: u32,
+    pub volume: u32,
+}
+
+/// The answer of [`auction`]: a price above 0 with its volume, or both 0 for none;
+/// or the number of a refusal, and then both are 0.
+#[repr(C)]
+#[derive(Clone, Copy, Debug, PartialEq, Eq)]
+pub struct AuctionNumbers {
+    pub volume: u64,
+    pub price: u32,
+    pub refusal: u32,
+}
 
 // Nothing checks these lines against the library's source; include/guvontsira.h
 // says the same in C.
@@ -41,6 +61,16 @@ unsafe extern "C" {
     fn guvontsira_floor(words: *const u32, word_count: usize, security: u32) -> u32;
 
     fn guvontsira_ceiling(words: *const u32, word_count: usize, security: u32) -> u32;
+
+    fn guvontsira_auction(
+        orders: *const AuctionOrder,
+        order_count: usize,
+        reference: u32,
+        buyers: *mut u64,
+        buyers_length: usize,
+        sellers: *mut u64,
+        sellers_length: usize,
+    ) -> AuctionNumbers;
 
     safe fn guvontsira_position(price: u32) -> u32;
 
@@ -118,6 +148,32 @@ pub fn floor(words: &[u32], security: u32) -> u32 {
 pub fn ceiling(words: &[u32], security: u32) -> u32 {
     // SAFETY: pointer and length are those of one borrowed slice.
     unsafe { guvontsira_ceiling(words.as_ptr(), words.len(), security) }
+}
+
+/// The price that an auction of these orders would give, with its volume. The
+/// scratch lists have at least 1,024 places each. After a call that is not
+/// refused they hold, at each limit's place in the list of orders, the buyers'
+/// and the sellers' sum at its price, 0 at the place of an ATO or ATC, and
+/// behind the last order what they held; a refusal changes neither.
+pub fn auction(
+    orders: &[AuctionOrder],
+    reference: u32,
+    buyers: &mut [u64],
+    sellers: &mut [u64],
+) -> AuctionNumbers {
+    // SAFETY: pointers and lengths are those of three borrowed slices; the two
+    // that are written overlap nothing. The structs have C's layout.
+    unsafe {
+        guvontsira_auction(
+            orders.as_ptr(),
+            orders.len(),
+            reference,
+            buyers.as_mut_ptr(),
+            buyers.len(),
+            sellers.as_mut_ptr(),
+            sellers.len(),
+        )
+    }
 }
 
 /// The ladder position of a price in satang; 0 if it is off the ladder.
