@@ -18,8 +18,11 @@ abbrev pub maxOrders : ℕ
 maxOrders = 1_024
 
 -- "price 0 for ATO or ATC"
+abbrev pub isAuction : AuctionOrder → Bool
+isAuction o = eqb (o .price) 0
+
 abbrev pub isLimit : AuctionOrder → Bool
-isLimit o = not (eqb (o .price) 0)
+isLimit o = not (isAuction o)
 
 -- "Candidates are the limit prices in the list."
 unfoldable pub candidates : List AuctionOrder → List ℕ
@@ -27,11 +30,11 @@ candidates orders = map (λ o. o .price) (keep isLimit orders)
 
 -- "At a price, buyers are ATO, ATC and limits at or above it;
 abbrev pub buysAt : ℕ → AuctionOrder → Bool
-buysAt p o = eqb (o .side) buy && (not (isLimit o) || leb p (o .price))
+buysAt p o = eqb (o .side) buy && (isAuction o || leb p (o .price))
 
 -- sellers are ATO, ATC and limits at or below it."
 abbrev pub sellsAt : ℕ → AuctionOrder → Bool
-sellsAt p o = eqb (o .side) sell && (not (isLimit o) || leb (o .price) p)
+sellsAt p o = eqb (o .side) sell && (isAuction o || leb (o .price) p)
 
 -- the volumes of the orders of which t holds, added up
 unfoldable pub sumOf : (AuctionOrder → Bool) → List AuctionOrder → ℕ
@@ -90,7 +93,7 @@ given reference (l ∷ ls) = Price (unbeaten reference l ls .price) (volumeOf (u
 -- "a side not 0 or 1, a price neither 0 nor legal, or a volume outside 1 to 20,000,000"
 unfoldable pub badOrder : AuctionOrder → Bool
 badOrder o =
-    ltb sell (o .side) || not (eqb (o .price) 0 || legal (o .price)) || not (leb 1 (o .volume) && leb (o .volume) maxVolume)
+    ltb sell (o .side) || not (isAuction o || legal (o .price)) || not (leb 1 (o .volume) && leb (o .volume) maxVolume)
 
 -- "14 if the list is longer or a scratch list shorter"
 abbrev pub listsFit : ℕ → ℕ → ℕ → Bool

@@ -124,7 +124,11 @@ fn beats(reference: u32, line: Line, other: Line) -> bool
 pub fn better(reference: u32, line: Line, best: Line) -> Line
     ensures { λ r. ⌜ r ≡ betterOf reference line best ⌝ }
 {
-    if beats(reference, line, best) { line } else { best }
+    if beats(reference, line, best) {
+        line
+    } else {
+        best
+    }
 }
 
 pub fn answer_of(bad: bool, best: Line) -> AuctionAnswer

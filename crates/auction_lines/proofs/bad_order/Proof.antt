@@ -1,17 +1,13 @@
+-- `auction_lines::bad_order` meets its contract: the three tests.
+-- Assumes nothing.
 use borrow.Author.Needs.{needs}
+use Rattle.auction_definitions.specs.Auction.{badOrder}
 use Rattle.auction_lines.proofs.bad_order.Statement.{statement}
 use Rattle.auction_lines.proofs.bad_order.Tie as tie
-use Rattle.auction_lines.proofs.bad_order.Reads as reads
-use Rattle.auction_lines.proofs.bad_order.Lts as lts
-use Rattle.auction_lines.proofs.price_or_none.Reads as price-or-none-reads
 
--- src/lib.rt:38:28
-price-or-none-requires : tie.Need-price-or-none-requires
-price-or-none-requires c κs = search needs
-
--- src/lib.rt:34:1
 returns : tie.Need-returns
-returns c = search needs
+unfolding badOrder
+returns c = rw (← c .price-or-none .ensures)
 
 pub bad-order-spec : {M : Type 1} → statement M
-bad-order-spec = tie.close (tie.spec price-or-none-requires returns)
+bad-order-spec = tie.close (tie.spec (λ c κs. search needs) returns)
