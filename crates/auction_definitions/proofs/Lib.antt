@@ -1,0 +1,2 @@
+pub mod StrictOrder
+pub mod Unbeaten
