@@ -4,3 +4,5 @@ pub mod Unbeaten
 pub mod Permuted
 pub mod Projected
 pub mod Promises
+pub mod Books
+pub mod Cases

@@ -5,18 +5,18 @@ use mathlib.Core.List.{List, [], _∷_, _++_, map}
 use mathlib.Core.Path.{_≡_, refl, sym, _∙_, ap, subst}
 use Prim.Native.Nat.{ℕ, _+_, _*_, _≤_, _<_}
 use lib.Dec.{eqb, leb, ltb}
-use lib.ListN.{length, getD}
-use borrow.Author.Tests.{eqb-false, eqb-true, ne-eqb, not-false}
+use lib.ListN.{length, getD, drop, length-map, List·getD-append, List·getD-map}
+use borrow.Author.Tests.{eqb-false, eqb-true, leb-true, ne-eqb}
 use native.Mathlib.Omega.{arith}
 use Rattle.ladder.specs.Ladder.{legal}
 use Rattle.definitions.specs.Lists.{any, firstMet, keep}
 use Rattle.definitions.proofs.Refused.{FoundFirst, first-found, found-first}
-use Rattle.definitions.proofs.Tests.{never}
+use Rattle.definitions.proofs.Tests.{never, or-parts, or-second}
 use Rattle.definitions.specs.Codes.{maxVolume, sell}
 use Rattle.auction_definitions.specs.declared.AuctionOrder.{AuctionOrder}
 use Rattle.auction_definitions.specs.declared.AuctionAnswer.{AuctionAnswer}
 use Rattle.auction_definitions.specs.declared.AuctionAnswer.the-variants.{Price, None, Refused}
-use Rattle.auction_definitions.specs.Auction.{auction, badOrder, beats, buyersAfter, candidates, conditions, given, isAuction, isLimit, listsFit, refusal, sellersAfter, traded, volumeOf}
+use Rattle.auction_definitions.specs.Auction.{auction, badOrder, beats, buyersAfter, candidates, conditions, given, isAuction, isLimit, listsFit, maxOrders, placeLine, refusal, sellersAfter, sumOf, sumsIn, traded, volumeOf}
 use Rattle.auction_definitions.specs.declared.Line.{Line}
 use Rattle.auction_definitions.proofs.Among.{Among, From, none-of, of-kept, of-mapped}
 use Rattle.auction_definitions.proofs.StrictOrder as order
@@ -51,6 +51,37 @@ numberOf (Refused n) = n
 never-refused : (reference : ℕ) (ls : List Line) → variantOf (given reference ls) ≡ 2 → ⊥
 never-refused reference [] e = omega (arith, e)
 never-refused reference (l ∷ ls) e = omega (arith, e)
+
+good-volume : (o : AuctionOrder) → badOrder o ≡ false → o .volume ≤ maxVolume
+unfolding badOrder
+good-volume o = go (ltb sell (o .side)) (isAuction o || legal (o .price)) (leb 1 (o .volume)) (leb (o .volume) maxVolume) refl
+  where
+    go : (side price above below : Bool) → leb (o .volume) maxVolume ≡ below → (side || not price || not (above && below)) ≡ false → o .volume ≤ maxVolume
+    go side price above true e good = leb-true (o .volume) maxVolume e
+    go side price true false e good = never (or-second (side || not price) refl) good
+    go side price false false e good = never (or-second (side || not price) refl) good
+
+sum-bound : (t : AuctionOrder → Bool) (os : List AuctionOrder) → any badOrder os ≡ false → sumOf t os ≤ length os * maxVolume
+unfolding sumOf any
+sum-bound t [] good = omega arith
+sum-bound t (o ∷ os) good =
+    let parts : (badOrder o ≡ false) × (any badOrder os ≡ false) = or-parts (badOrder o) (any badOrder os) good in
+    go (t o) (good-volume o (parts .0)) (sum-bound t os (parts .1))
+  where
+    go : (b : Bool) → o .volume ≤ maxVolume → sumOf t os ≤ length os * maxVolume → cond b (o .volume) 0 + sumOf t os ≤ length (o ∷ os) * maxVolume
+    go true one rest = omega (arith, one, rest)
+    go false one rest = omega (arith, one, rest)
+
+-- read past the list's end
+abbrev pub noOrder : AuctionOrder
+noOrder = record { side = 0; price = 0; volume = 0 }
+
+sums-held : (sum : Line → ℕ) (orders : List AuctionOrder) (scratch : List ℕ) (i : ℕ) → i < length orders → sum (record { price = 0; buyers = 0; sellers = 0 }) ≡ 0
+    → getD (sumsIn sum orders scratch) i 0 ≡ sum (placeLine orders (getD orders i noOrder))
+unfolding sumsIn placeLine
+sums-held sum orders scratch i small none =
+    List·getD-append (map (λ o. sum (placeLine orders o)) orders) (drop (length orders) scratch) 0 i (subst (λ (n : ℕ). i < n) (sym (length-map orders (λ o. sum (placeLine orders o)))) small)
+    ∙ subst (λ (d : ℕ). getD (map (λ o. sum (placeLine orders o)) orders) i d ≡ sum (placeLine orders (getD orders i noOrder))) none (List·getD-map (λ o. sum (placeLine orders o)) orders i noOrder)
 
 module _ (orders : List AuctionOrder) (reference : ℕ) (buyers sellers : List ℕ) where
   abbrev answer : AuctionAnswer
@@ -126,6 +157,25 @@ module _ (orders : List AuctionOrder) (reference : ℕ) (buyers sellers : List �
       let limit : Among (found .of) orders × (isLimit (found .of) ≡ true) = of-kept isLimit (found .of) orders (found .among) in
       subst (λ (q : ℕ). legal q ≡ true) (sym (found .same))
       (good-limit (found .of) (limit .1) (none-of badOrder (found .of) orders (none-bad fits) (limit .0)))
+
+  lists-fit : refusal orders buyers sellers ≡ 0 → length orders ≤ maxOrders
+  unfolding refusal firstMet
+  lists-fit = go (leb (length orders) maxOrders) refl (leb maxOrders (length buyers)) (leb maxOrders (length sellers)) (any badOrder orders)
+    where
+      go : (a : Bool) → leb (length orders) maxOrders ≡ a → (b c d : Bool) → firstMet ((14, not (a && b && c)) ∷ (15, d) ∷ []) ≡ 0 → length orders ≤ maxOrders
+      go true e b c d f = leb-true (length orders) maxOrders e
+      go false e b c d f = absurd (omega (arith, f))
+
+  -- a sum of the orders' volumes is at most 1,024 times 20,000,000, and so are both sums of a line and its volume: far below 2 ^ 64
+  pub sums-fit : refusal orders buyers sellers ≡ 0 → (t : AuctionOrder → Bool) → sumOf t orders ≤ 20_480_000_000
+  sums-fit fits t = omega (arith, sum-bound t orders (none-bad fits), lists-fit fits)
+
+  -- what the scratch lists hold: at each order's place the sums of its line
+  pub buyers-held : refusal orders buyers sellers ≡ 0 → (i : ℕ) → i < length orders → getD (buyersAfter orders buyers sellers) i 0 ≡ placeLine orders (getD orders i noOrder) .buyers
+  buyers-held fits i small = rw fits (sums-held (λ l. l .buyers) orders buyers i small refl)
+
+  pub sellers-held : refusal orders buyers sellers ≡ 0 → (i : ℕ) → i < length orders → getD (sellersAfter orders buyers sellers) i 0 ≡ placeLine orders (getD orders i noOrder) .sellers
+  sellers-held fits i small = rw fits (sums-held (λ l. l .sellers) orders sellers i small refl)
 
 refusal-permuted : {orders others : List AuctionOrder} (buyers sellers : List ℕ) → Permuted orders others → refusal orders buyers sellers ≡ refusal others buyers sellers
 unfolding refusal
