@@ -422,7 +422,7 @@ module _ {M : Type 1} (𝓤 : URA M) (H : Heap 𝓤) (A : Atoms 𝓤) (W : Given
       tail : (q : Share) (bad : Bool) (t : State q (Open q)) → Promise (answerOf bad (t .best)) (t .bs) (t .ss) → Sq W (Out q (Open q) bad t) (runs (𝓣 .C) (𝓣 .Λ) E body.t-11 (atRet E Post))
       tail q bad t promise =
           calls-answer-of 𝓤 H A W mem run bad (t .best) ! fm known-answer-of (t .best-is) (and-then ! (load ! (from ! (stop !)) (look ! 10 refl)) (and-then ! (load ! (from ! (stop !)) (look ! 9 refl)) (no-more !))) (λ is.
-          land ! (from ! (stop !)) (init ! 3 refl (answer-typed 𝓤 H A W _ is)) $
+          land ! (from ! (stop !)) (init ! 3 refl (answer-typed 𝓤 H A W (answerOf bad (t .best)) is)) $
           move ! (0 ∷ 30 ∷ []) $ shuts-slice ! tt O.the-row q os (xo .ptr .0) (xo .ptr .1) $
           -- [the orders' token; the buyers' list; the sellers'; the locals; the fractured borrow; what closes the other two; …]
           move ! (1 ∷ 31 ∷ 32 ∷ 33 ∷ []) $ closes-slice ! tt u64 (now xb) (t .bs) (t .bs-long) (xb .ptr .0) (xb .ptr .1) $
