@@ -1,11 +1,11 @@
 -- The better line, asked place by place from a line without volume, is the one that the definition chooses of the lines with volume.
 -- Assumes nothing.
-use mathlib.Core.Bool.{Bool, true, false, cond, not, _&&_, _||_}
+use mathlib.Core.Bool.{Bool, true, false, cond}
 use mathlib.Core.List.{List, [], _∷_, map}
-use mathlib.Core.Path.{_≡_, refl, sym, _∙_, ap, subst}
-use Prim.Native.Nat.{ℕ, _≤_, _<_}
-use lib.Dec.{eqb, ltb}
-use borrow.Author.Tests.{eq-eqb, le-ltb, lt-ltb, ltb-false, ltb-true, ne-eqb}
+use mathlib.Core.Path.{_≡_, refl, sym, _∙_, ap}
+use Prim.Native.Nat.{ℕ}
+use lib.Dec.{ltb}
+use borrow.Author.Tests.{ltb-false, ltb-true}
 use native.Mathlib.Omega.{arith}
 use Rattle.definitions.specs.Lists.{keep}
 use Rattle.definitions.proofs.Tests.{either}
@@ -13,21 +13,13 @@ use Rattle.auction_definitions.specs.declared.AuctionOrder.{AuctionOrder}
 use Rattle.auction_definitions.specs.declared.Line.{Line}
 use Rattle.auction_definitions.specs.declared.AuctionAnswer.{AuctionAnswer}
 use Rattle.auction_definitions.specs.declared.AuctionAnswer.the-variants.{Price}
-use Rattle.auction_definitions.specs.Auction.{aheadBy, beats, candidates, differenceOf, distanceTo, given, higher, isLimit, less, lineAt, placeLine, traded, unbeaten, volumeOf}
+use Rattle.auction_definitions.specs.Auction.{beats, candidates, given, isLimit, lineAt, placeLine, traded, unbeaten, volumeOf}
+use Rattle.auction_definitions.proofs.StrictOrder.{ahead-of, behind}
 use Rattle.auction_lines.specs.Lines.{answerOf, betterOf, emptyLine}
 use Rattle.auction.specs.Turns.{bestAfter}
 
 abbrev hasVolume : Line → Bool
 hasVolume l = ltb 0 (volumeOf l)
-
--- a line with less volume beats none, one with more beats it
-behind : (reference : ℕ) (l m : Line) → volumeOf l < volumeOf m → beats reference l m ≡ false
-unfolding beats
-behind reference l m less = rw (le-ltb (volumeOf m) (volumeOf l) (omega (arith, less)), ne-eqb (volumeOf l) (volumeOf m) (λ e. omega (arith, less, e)))
-
-ahead : (reference : ℕ) (l m : Line) → volumeOf m < volumeOf l → beats reference l m ≡ true
-unfolding beats
-ahead reference l m less = rw (lt-ltb (volumeOf m) (volumeOf l) less)
 
 module _ (reference : ℕ) (orders : List AuctionOrder) where
   -- the lines with volume of some of the orders
@@ -72,7 +64,7 @@ module _ (reference : ℕ) (orders : List AuctionOrder) where
   step-none l best os rest none above below = go (hasVolume l) refl
     where
       go : (t : Bool) → hasVolume l ≡ t → answered (betterOf reference l best) os ≡ given reference (cond t (l ∷ rest) rest)
-      go true has = rw (ahead reference l best (omega (arith, ltb-true 0 (volumeOf l) has, ltb-false 0 (volumeOf best) none))) (above l has)
+      go true has = rw (ahead-of reference l best (omega (arith, ltb-true 0 (volumeOf l) has, ltb-false 0 (volumeOf best) none))) (above l has)
       go false without = below (betterOf reference l best) (either (λ (b : Line). hasVolume b ≡ false) (beats reference l best) l best (λ _. without) (λ _. none))
 
   from-volume : (os : List AuctionOrder) (best : Line) → hasVolume best ≡ true → answered best os ≡ priced (unbeaten reference best (tradedOf os))

@@ -123,12 +123,13 @@ module _ (orders : List AuctionOrder) (reference : ℕ) (buyers sellers : List �
       → (eqb i 0 && badOrder (getD orders j noOrder)) ≡ false → Orders orders i (j + 1) (withOrder line (getD orders j noOrder))
   unfolding withOrder lineAfter
   orders-next {i} {j} {line} at small volume good =
-      record
-      { within = omega (arith, small)
-      ; bad-left = λ first. sym (any-next badOrder orders j noOrder small ∙ ap (λ (b : Bool). b || any badOrder (drop (j + 1) orders)) (and-second (eqb i 0) (badOrder (getD orders j noOrder)) good (eq-eqb i 0 first))) ∙ at .bad-left first
-      ; line-left = sym (ap (lineAfter line) (drop-next orders j noOrder small)) ∙ at .line-left
-      ; buyers-small = omega (arith, at .buyers-small, volume, added-small (not (eqb (line .price) 0) && buysAt (line .price) (getD orders j noOrder)) (getD orders j noOrder .volume))
-      ; sellers-small = omega (arith, at .sellers-small, volume, added-small (not (eqb (line .price) 0) && sellsAt (line .price) (getD orders j noOrder)) (getD orders j noOrder .volume)) }
+      record {
+        within = omega (arith, small);
+        bad-left = λ first. sym (any-next badOrder orders j noOrder small ∙ ap (λ (b : Bool). b || any badOrder (drop (j + 1) orders)) (and-second (eqb i 0) (badOrder (getD orders j noOrder)) good (eq-eqb i 0 first))) ∙ at .bad-left first;
+        line-left = sym (ap (lineAfter line) (drop-next orders j noOrder small)) ∙ at .line-left;
+        buyers-small = omega (arith, at .buyers-small, volume, added-small (not (eqb (line .price) 0) && buysAt (line .price) (getD orders j noOrder)) (getD orders j noOrder .volume));
+        sellers-small = omega (arith, at .sellers-small, volume, added-small (not (eqb (line .price) 0) && sellsAt (line .price) (getD orders j noOrder)) (getD orders j noOrder .volume));
+      }
 
   -- every order was added: the line is the place's
   line-whole : {i : ℕ} {line : Line} → Orders orders i (length orders) line → line ≡ placeLine orders (getD orders i noOrder)
@@ -145,14 +146,15 @@ module _ (orders : List AuctionOrder) (reference : ℕ) (buyers sellers : List �
       → Candidates orders reference buyers sellers (i + 1) (betterOf reference line best) (set bs i (line .buyers)) (set ss i (line .sellers))
   unfolding bestAfter
   candidates-next {i} {best} {line} at small done fit-b fit-s =
-      record
-      { within = omega (arith, small)
-      ; none-bad = λ _. none-bad-next i (at .none-bad) done
-      ; best-left =
-          ap (λ l. bestAfter reference orders (betterOf reference l best) (drop (i + 1) orders)) (line-whole done)
-          ∙ sym (ap (bestAfter reference orders best) (drop-next orders i noOrder small)) ∙ at .best-left
-      ; buyers-so-far = ap (λ l. set l i (line .buyers)) (at .buyers-so-far) ∙ filled-next (λ l. l .buyers) orders i buyers small (omega (arith, small, fit-b)) (line-whole done)
-      ; sellers-so-far = ap (λ l. set l i (line .sellers)) (at .sellers-so-far) ∙ filled-next (λ l. l .sellers) orders i sellers small (omega (arith, small, fit-s)) (line-whole done) }
+      record {
+        within = omega (arith, small);
+        none-bad = λ _. none-bad-next i (at .none-bad) done;
+        best-left =
+            ap (λ l. bestAfter reference orders (betterOf reference l best) (drop (i + 1) orders)) (line-whole done)
+            ∙ sym (ap (bestAfter reference orders best) (drop-next orders i noOrder small)) ∙ at .best-left;
+        buyers-so-far = ap (λ l. set l i (line .buyers)) (at .buyers-so-far) ∙ filled-next (λ l. l .buyers) orders i buyers small (omega (arith, small, fit-b)) (line-whole done);
+        sellers-so-far = ap (λ l. set l i (line .sellers)) (at .sellers-so-far) ∙ filled-next (λ l. l .sellers) orders i sellers small (omega (arith, small, fit-s)) (line-whole done);
+      }
 
   abbrev fit : Bool
   fit = listsFit (length orders) (length buyers) (length sellers)
@@ -185,10 +187,11 @@ module _ (orders : List AuctionOrder) (reference : ℕ) (buyers sellers : List �
   pub promised : {best : Line} {bs ss : List ℕ} → fit ≡ true
       → Candidates orders reference buyers sellers (length orders) best bs ss → Promised (answerOf false best) bs ss
   unfolding auction bestAfter sumsIn filledTo
-  promised {best} fits at = rw (refusal-0 fits (none-bad-all orders (at .none-bad)))
-      ( ap (answerOf false) (sym (ap (bestAfter reference orders best) (drop-of-length-le orders {i = length orders} (omega arith))) ∙ at .best-left) ∙ chosen reference orders
-      , at .buyers-so-far ∙ filled-whole (λ l. l .buyers) orders buyers
-      , at .sellers-so-far ∙ filled-whole (λ l. l .sellers) orders sellers )
+  promised {best} fits at = rw (refusal-0 fits (none-bad-all orders (at .none-bad))) (
+    ap (answerOf false) (sym (ap (bestAfter reference orders best) (drop-of-length-le orders {i = length orders} (omega arith))) ∙ at .best-left) ∙ chosen reference orders,
+    at .buyers-so-far ∙ filled-whole (λ l. l .buyers) orders buyers,
+    at .sellers-so-far ∙ filled-whole (λ l. l .sellers) orders sellers,
+  )
 
   -- a bad order was met, which only the first turn asks about
   pub promised-bad : {i j : ℕ} {best line : Line} {bs ss : List ℕ} → fit ≡ true

@@ -3,7 +3,7 @@
 use mathlib.Core.Bool.{Bool, true, false, _&&_, _||_}
 use mathlib.Core.Path.{_≡_, refl, sym, _∙_, subst}
 use mathlib.Core.Logic.{_⊎_, inl, inr}
-use Prim.Native.Nat.{ℕ}
+use Prim.Native.Nat.{ℕ, _<_}
 use lib.Dec.{ltb, eqb}
 use borrow.Author.Tests.{eq-eqb, eqb-true, le-ltb, lt-ltb, ltb-false, ltb-true, ne-eqb}
 use native.Mathlib.Omega.{arith}
@@ -121,3 +121,13 @@ module _ (reference : ℕ) where
       go : (t : Bool) → beats reference l n ≡ t → beats reference l n ≡ true
       go true e = e
       go false e = never first (beats-strict reference .not-through l n m e (beats-strict reference .one-way m n second))
+
+  -- a line with less volume beats none with more, and one with more beats it
+  pub behind : (l m : Line) → volumeOf l < volumeOf m → beats reference l m ≡ false
+  unfolding beats
+  behind l m small =
+      rw (le-ltb (volumeOf m) (volumeOf l) (omega (arith, small)), ne-eqb (volumeOf l) (volumeOf m) (λ e. omega (arith, small, e)))
+
+  pub ahead-of : (l m : Line) → volumeOf m < volumeOf l → beats reference l m ≡ true
+  unfolding beats
+  ahead-of l m small = rw (lt-ltb (volumeOf m) (volumeOf l) small)

@@ -6,12 +6,8 @@ use mathlib.Core.Path.{_≡_, refl}
 use Prim.Native.Nat.{ℕ}
 use Rattle.auction_definitions.specs.declared.Line.{Line}
 use Rattle.auction_definitions.specs.Auction.{beats, unbeaten}
+use Rattle.auction_definitions.proofs.Among.{Among, first, later}
 use Rattle.auction_definitions.proofs.StrictOrder.{beats-strict, irreflexive}
-
--- x stands in the list
-pub data Among {A : Type 0} (x : A) : List A → Type 0 where
-  first : {xs : List A} → Among x (x ∷ xs)
-  later : {y : A} {xs : List A} → Among x xs → Among x (y ∷ xs)
 
 module _ (reference : ℕ) where
   chosen-of-two : (t : Bool) (l m n : Line) (ns : List Line) → Among m (cond t n l ∷ ns) → Among m (l ∷ n ∷ ns)

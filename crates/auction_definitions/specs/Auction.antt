@@ -99,10 +99,14 @@ badOrder o =
 abbrev pub listsFit : ℕ → ℕ → ℕ → Bool
 listsFit orders buyers sellers = leb orders maxOrders && leb maxOrders buyers && leb maxOrders sellers
 
--- "Turned away: 14 .., first; 15 for .."; 0 where neither is met
+-- "Turned away: 14 .., first; 15 for .."
+abbrev pub conditions : List AuctionOrder → List ℕ → List ℕ → List (ℕ × Bool)
+conditions orders buyers sellers =
+    (14, not (listsFit (length orders) (length buyers) (length sellers))) ∷ (15, any badOrder orders) ∷ []
+
+-- 0 where neither is met
 unfoldable pub refusal : List AuctionOrder → List ℕ → List ℕ → ℕ
-refusal orders buyers sellers =
-    firstMet ((14, not (listsFit (length orders) (length buyers) (length sellers))) ∷ (15, any badOrder orders) ∷ [])
+refusal orders buyers sellers = firstMet (conditions orders buyers sellers)
 
 -- of the orders, the reference and the two scratch lists
 unfoldable pub auction : List AuctionOrder → ℕ → List ℕ → List ℕ → AuctionAnswer

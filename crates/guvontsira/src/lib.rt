@@ -6,7 +6,10 @@ ghost use Rattle.definitions.specs.Gate.{answerOf, ceilingNumber, dailyRange, f
 ghost use lib.ListN.{length, take};
 ghost use Rattle.definitions.specs.Walk.{split};
 ghost use Rattle.histories.specs.Ran.{Ran, cut};
+ghost use Rattle.auction_definitions.specs.Auction.{auction, auctionNumbers, buyersAfter, sellersAfter};
 ghost use Rattle.guvontsira.specs.Version.{version};
+use auction_definitions::AuctionNumbers;
+use auction_definitions::AuctionOrder;
 use ladder::Ladder;
 
 const VERSION: u32 = 40_001;
@@ -96,6 +99,22 @@ pub extern "C" fn guvontsira_price(position: u32) -> u32
     ensures { λ r. ⌜ r ≡ priceAt position ⌝ }
 {
     Ladder::price(position)
+}
+
+// The price an auction would give, with the answer as its numbers.
+#[no_mangle]
+pub extern "C" fn guvontsira_auction(
+    orders: &[AuctionOrder],
+    reference: u32,
+    buyers: &mut [u64],
+    sellers: &mut [u64],
+) -> AuctionNumbers
+    ensures { λ r.
+        ⌜ (r ≡ auctionNumbers (auction (now (orders .entry)) reference (now (buyers .entry)) (now (sellers .entry))))
+        × (now (buyers .exit) ≡ buyersAfter (now (orders .entry)) (now (buyers .entry)) (now (sellers .entry)))
+        × (now (sellers .exit) ≡ sellersAfter (now (orders .entry)) (now (buyers .entry)) (now (sellers .entry))) ⌝ }
+{
+    auction_lines::numbers_of(auction::price(orders, reference, buyers, sellers))
 }
 
 // A caller whose header has another number was built for another release.
