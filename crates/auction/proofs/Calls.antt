@@ -19,12 +19,12 @@ use prog.Wp.{Heap, Env, Calls, Loops, evalOpds}
 use ghost.Atoms.{Atoms, sem}
 use sound.WpLaws.{FmC}
 use contract.Monad.{Fun, fact}
-use types.Kit.{Given, Item, ‵, raw, _⊛_, some, later, ⋆, push, Post, runs, lands, aim, Seq, Step, step, _$_, _∵_, !, qed, use1, await, pick, split, join, move, drop, fjoin, frame, done}
+use types.Kit.{Given, Item, ‵, raw, _⊛_, some, later, ⋆, push, Post, runs, lands, aim, Seq, _$_, _∵_, !, qed, use1, await, pick, split, join, move, drop, fjoin, frame, done}
 use types.Run.{Opds}
 use denote.RattleType.{RattleType}
 use denote.Laws.{Is, Tells, shows}
-use denote.Plain.{uint-makes, uint-tells, bool-makes, bool-tells}
-use denote.Builtin.{bool, u32, u64, usize}
+use denote.Plain.{uint-makes, bool-makes, bool-tells}
+use denote.Builtin.{bool, u32, usize}
 use denote.Struct.Laws as LL
 use denote.Steps.{only, owned, nothing, facts, heard}
 use denote.Triple.Statement.{Contract, Triple}
@@ -61,10 +61,10 @@ module _ {M : Type 1} {𝓤 : URA M} {H : Heap 𝓤} {A : Atoms 𝓤} {K : Type 
       → ((u : Val) → Seq K W (raw (Q u) ∷ Γ) (lands C Λ E d u rest q)) → Seq K W Γ (runs C Λ E (seq (call f xs d) rest) q)
   called fm vs Q met os k = record {
     prf = via 𝓤 (evalOpds 𝓤 H E xs (λ us. C f us (λ u. aim 𝓤 H (lands C Λ E d u rest q))))
-      (os .go (λ us. C f us (λ u. aim 𝓤 H (lands C Λ E d u rest q)))
-      (via 𝓤 (sep 𝓤 (C f vs Q) (⋆ 𝓤 H A Γ)) (via 𝓤 (sep 𝓤 (emp 𝓤) (⋆ 𝓤 H A Γ)) (emp∗ 𝓤 (⋆ 𝓤 H A Γ)) (monoL 𝓤 (⋆ 𝓤 H A Γ) met))
-      (fm f vs Q (λ u. aim 𝓤 H (lands C Λ E d u rest q)) (⋆ 𝓤 H A Γ) (λ u. via 𝓤 (⋆ 𝓤 H A (raw (Q u) ∷ Γ)) (push 𝓤 H A (raw (Q u)) Γ) (k u .prf)))))
-      (W .laws .⇛-intro _);
+        (os .go (λ us. C f us (λ u. aim 𝓤 H (lands C Λ E d u rest q)))
+        (via 𝓤 (sep 𝓤 (C f vs Q) (⋆ 𝓤 H A Γ)) (via 𝓤 (sep 𝓤 (emp 𝓤) (⋆ 𝓤 H A Γ)) (emp∗ 𝓤 (⋆ 𝓤 H A Γ)) (monoL 𝓤 (⋆ 𝓤 H A Γ) met))
+        (fm f vs Q (λ u. aim 𝓤 H (lands C Λ E d u rest q)) (⋆ 𝓤 H A Γ) (λ u. via 𝓤 (⋆ 𝓤 H A (raw (Q u) ∷ Γ)) (push 𝓤 H A (raw (Q u)) Γ) (k u .prf)))))
+        (W .laws .⇛-intro _);
   }
 
   pub calls-plain : K → FmC 𝓤 H (W .laws) C → (c : Contract 𝓤) → Triple 𝓤 (C f) c → (x : c .Ghost) → ent 𝓤 (emp 𝓤) (c .pre x)
