@@ -172,7 +172,7 @@ module _ (orders : List AuctionOrder) (reference : ℕ) (buyers sellers : List �
   refusal-15 fits some = rw (fits, some)
 
   -- what is promised, of an answer and the two lists left
-  abbrev Promised : AuctionAnswer → List ℕ → List ℕ → Type 0
+  abbrev pub Promised : AuctionAnswer → List ℕ → List ℕ → Type 0
   Promised answer bs ss = (answer ≡ auction orders reference buyers sellers) × (bs ≡ buyersAfter orders buyers sellers) × (ss ≡ sellersAfter orders buyers sellers)
 
   refused : {n : ℕ} → refusal orders buyers sellers ≡ n → eqb n 0 ≡ false → Promised (Refused n) buyers sellers

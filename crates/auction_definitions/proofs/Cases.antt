@@ -7,7 +7,7 @@ use lib.ListN.{replicate, take}
 use Rattle.auction_definitions.specs.declared.AuctionOrder.{AuctionOrder}
 use Rattle.auction_definitions.specs.declared.AuctionAnswer.{AuctionAnswer}
 use Rattle.auction_definitions.specs.declared.AuctionAnswer.the-variants.{Price, None, Refused}
-use Rattle.auction_definitions.specs.Auction.{auction, badOrder, beats, buyersAfter, candidates, lineAt, placeLine, refusal, sellersAfter, sumOf, sumsIn, traded, unbeaten, volumeOf}
+use Rattle.auction_definitions.specs.Auction.{auction, auctionNumbers, badOrder, beats, buyersAfter, candidates, lineAt, placeLine, refusal, sellersAfter, sumOf, sumsIn, traded, unbeaten, volumeOf}
 use Rattle.definitions.specs.Lists.{any, firstMet, keep}
 use Rattle.ladder.specs.Ladder.{legal, bandOfPrice, lastBand}
 use Rattle.auction_definitions.proofs.Books.{atoBothSides, book002, book003, buying, endingIn, evenBook, higherNearer, lowerNearer, many, selling}
@@ -96,3 +96,8 @@ sellers-003 = refl
 pub left-003 : take 2 (buyersAfter (buying 1_005 100 ∷ []) (replicate 1_024 7) (replicate 1_024 7)) ≡ 7 ∷ 7 ∷ []
 unfolding refusal firstMet any badOrder legal bandOfPrice lastBand sumsIn placeLine lineAt sumOf
 left-003 = refl
+
+-- each answer's numbers
+pub numbers : map auctionNumbers (Price 10_200 3_500 ∷ None ∷ Refused 14 ∷ Refused 15 ∷ [])
+    ≡ record { volume = 3_500; price = 10_200; refusal = 0 } ∷ record { volume = 0; price = 0; refusal = 0 } ∷ record { volume = 0; price = 0; refusal = 14 } ∷ record { volume = 0; price = 0; refusal = 15 } ∷ []
+numbers = refl

@@ -6,7 +6,7 @@ use mathlib.Core.Path.{_≡_, refl, sym, _∙_, ap, subst}
 use Prim.Native.Nat.{ℕ, _+_, _*_, _≤_, _<_}
 use lib.Dec.{eqb, leb, ltb}
 use lib.ListN.{length, getD, drop, length-map, List·getD-append, List·getD-map}
-use borrow.Author.Tests.{eqb-false, eqb-true, leb-true, ne-eqb}
+use borrow.Author.Tests.{eqb-false, eqb-true, leb-true, ne-eqb, not-true}
 use native.Mathlib.Omega.{arith}
 use Rattle.ladder.specs.Ladder.{legal}
 use Rattle.definitions.specs.Lists.{any, firstMet, keep}
@@ -148,7 +148,15 @@ module _ (orders : List AuctionOrder) (reference : ℕ) (buyers sellers : List �
   pub refusal-leaves : {n : ℕ} → answer ≡ Refused n → (buyersAfter orders buyers sellers ≡ buyers) × (sellersAfter orders buyers sellers ≡ sellers)
   refusal-leaves {n} e = rw (refusal-of e .0, ne-eqb n 0 (refusal-of e .1)) (refl, refl)
 
-  -- the price given is legal
+  -- the price given is above 0, so that its numbers are not those of none
+  pub price-above-0 : {p v : ℕ} → answer ≡ Price p v → 0 < p
+  unfolding candidates
+  price-above-0 {p} e =
+      let found : From (λ (o : AuctionOrder). o .price) p (keep isLimit orders) = of-mapped (λ o. o .price) p (keep isLimit orders) (price-unbeaten e .candidate) in
+      let limit : Among (found .of) orders × (isLimit (found .of) ≡ true) = of-kept isLimit (found .of) orders (found .among) in
+      omega (arith, found .same, eqb-false (found .of .price) 0 (not-true (isAuction (found .of)) (limit .1)))
+
+  -- and legal
   pub price-legal : {p v : ℕ} → answer ≡ Price p v → legal p ≡ true
   unfolding candidates
   price-legal {p} e =

@@ -58,7 +58,7 @@ use Rattle.auction_definitions.specs.declared.AuctionAnswer.{AuctionAnswer}
 use Rattle.auction_definitions.specs.declared.AuctionAnswer.the-variants.{Refused}
 use Rattle.auction_definitions.specs.declared.AuctionOrder.{AuctionOrder}
 use Rattle.auction_definitions.specs.declared.Line.{Line}
-use Rattle.auction_definitions.specs.Auction.{auction, badOrder, buyersAfter, listsFit, sellersAfter}
+use Rattle.auction_definitions.specs.Auction.{badOrder, listsFit}
 use Rattle.auction_lines.specs.Lines.{answerOf, betterOf, emptyLine, withOrder}
 use Rattle.auction.specs.Turns.{noOrder}
 use Rattle.auction_definitions.proofs.AuctionAnswer as N
@@ -86,7 +86,7 @@ use Rattle.auction_lines.proofs.answer_of.Symbol.{name as #answer-of}
 use Rattle.auction_lines.proofs.answer_of.Met as answer-of-thm
 use Rattle.auction.proofs.Calls.{ListsFit, LineAt, BadAtFirst, WithOrder, Better, AnswerOf, calls-lists-fit, calls-line-at, calls-bad-at-first, calls-with-order, calls-better, calls-answer-of}
 use Rattle.auction.proofs.States.{Places, Passed, past, holds, fails, holds-twice, sizes, order-typed, line-typed, answer-typed}
-use Rattle.auction.proofs.Laws.{Candidates, Orders, candidates-start, candidates-next, orders-start, orders-next, small, promised, promised-bad, promised-unfit}
+use Rattle.auction.proofs.Laws.{Candidates, Orders, candidates-start, candidates-next, orders-start, orders-next, small, Promised, promised, promised-bad, promised-unfit}
 use Rattle.auction.proofs.price.Key.{name as #auction·price}
 use Rattle.auction.proofs.price as price
 use Rattle.auction.proofs.price.Statement as stated
@@ -157,10 +157,6 @@ module _ {M : Type 1} (𝓤 : URA M) (H : Heap 𝓤) (A : Atoms 𝓤) (W : Given
   abbrev Post : Val → SProp 𝓤
   Post = walkOf 𝓤 H A price.ended stayed (price.clauses 𝓤 H A mem run) .post (((κ₀, (κ₁, (κ₂, tt))), (q₀, (q₁, (q₂, tt))), tt, a, vals), tt)
 
-  -- what the contract says of an answer and the two lists left
-  abbrev Promise : AuctionAnswer → List ℕ → List ℕ → Type 0
-  Promise r bs ss = (r ≡ auction os reference bs₀ ss₀) × (bs ≡ buyersAfter os bs₀ ss₀) × (ss ≡ sellersAfter os bs₀ ss₀)
-
   abbrev State : Type 0
   State = Places os reference bs₀ ss₀
 
@@ -170,7 +166,7 @@ module _ {M : Type 1} (𝓤 : URA M) (H : Heap 𝓤) (A : Atoms 𝓤) (W : Given
       ∷ ‵ (fobs (xs .name) (codedHoleys u64 .code (heres u64 ss))) ∷ ‵ (fbor κ₂ (Held u64 (length ss) b₂ o₂ (xs .name))) ∷ ‵ (flft κ₂ q₂)
       ∷ ‵ (fobs (xb .name) (codedHoleys u64 .code (heres u64 bs))) ∷ ‵ (fbor κ₁ (Held u64 (length bs) b₁ o₁ (xb .name))) ∷ ‵ (flft κ₁ q₁) ∷ ‵ (flft κ₀ q₀) ∷ Γ
 
-  exits : (r : AuctionAnswer) (bs ss : List ℕ) → Is N.the-row r (N′.lowered r ∷ []) → length bs ≡ length bs₀ → length ss ≡ length ss₀ → Promise r bs ss
+  exits : (r : AuctionAnswer) (bs ss : List ℕ) → Is N.the-row r (N′.lowered r ∷ []) → length bs ≡ length bs₀ → length ss ≡ length ss₀ → Promised os reference bs₀ ss₀ r bs ss
       → ent 𝓤 (⋆ 𝓤 H A (Owned bs ss [])) (Post (N′.lowered r))
   exits r bs ss is lb ls promised =
       qed W (Owned bs ss []) ∵
@@ -230,7 +226,7 @@ module _ {M : Type 1} (𝓤 : URA M) (H : Heap 𝓤) (A : Atoms 𝓤) (W : Given
           ∷ empty tyBool l₇ ∷ empty (tyInt w64) l₈ ∷ empty L′.mir l₉ ∷ empty (tyInt w64) l₁₀ ∷ Late Dies
 
       -- the result is in its local: it is returned, and the locals are freed
-      leaves : (q : Kit.Post 𝓤 H) → post 𝓤 H q returnsᴼ ≡ atReturn 𝓤 H E Post returnsᴼ → (r : AuctionAnswer) (bs ss : List ℕ) → Is N.the-row r (N′.lowered r ∷ []) → length bs ≡ length bs₀ → length ss ≡ length ss₀ → Promise r bs ss
+      leaves : (q : Kit.Post 𝓤 H) → post 𝓤 H q returnsᴼ ≡ atReturn 𝓤 H E Post returnsᴼ → (r : AuctionAnswer) (bs ss : List ℕ) → Is N.the-row r (N′.lowered r ∷ []) → length bs ≡ length bs₀ → length ss ≡ length ss₀ → Promised os reference bs₀ ss₀ r bs ss
           → Sq W (Owned bs ss (Freed r)) (runs (𝓣 .C) (𝓣 .Λ) E return q)
       leaves q to r bs ss is lb ls promised =
           returns-within ! Post to (look ! 9 refl) $ forget ! 9 refl $
@@ -310,7 +306,7 @@ module _ {M : Type 1} (𝓤 : URA M) (H : Heap 𝓤) (A : Atoms 𝓤) (W : Given
 
           -- the outer loop
           module _ (fit : listsFit n (length bs₀) (length ss₀) ≡ true) (Q : Kit.Post 𝓤 H)
-              (to-tail : (bad : Bool) (t : State) → Promise (answerOf bad (t .best)) (t .bs) (t .ss) → Sq W (Out bad t) (prop (post 𝓤 H Q next))) where
+              (to-tail : (bad : Bool) (t : State) → Promised os reference bs₀ ss₀ (answerOf bad (t .best)) (t .bs) (t .ss) → Sq W (Out bad t) (prop (post 𝓤 H Q next))) where
             abbrev places-left : State → ℕ
             places-left t = n - t .i
 
@@ -410,7 +406,7 @@ module _ {M : Type 1} (𝓤 : URA M) (H : Heap 𝓤) (A : Atoms 𝓤) (W : Given
           ∷ ‵ (fres (xo .name) (codedHoleys O.the-row .code (heres O.the-row os))) ∷ Dies
 
       -- after the loops: the answer is made, the borrows are closed, and the function returns
-      tail : (q : Share) (bad : Bool) (t : State) → Promise (answerOf bad (t .best)) (t .bs) (t .ss) → Sq W (Out q (Open q) bad t) (runs (𝓣 .C) (𝓣 .Λ) E body.t-11 (atRet E Post))
+      tail : (q : Share) (bad : Bool) (t : State) → Promised os reference bs₀ ss₀ (answerOf bad (t .best)) (t .bs) (t .ss) → Sq W (Out q (Open q) bad t) (runs (𝓣 .C) (𝓣 .Λ) E body.t-11 (atRet E Post))
       tail q bad t promise =
           calls-answer-of 𝓤 H A W mem run bad (t .best) ! fm known-answer-of (t .best-is) (and-then ! (load ! (from ! (stop !)) (look ! 10 refl)) (and-then ! (load ! (from ! (stop !)) (look ! 9 refl)) (no-more !))) (λ is.
           land ! (from ! (stop !)) (init ! 3 refl (answer-typed 𝓤 H A W (answerOf bad (t .best)) is)) $
