@@ -11,7 +11,7 @@ import pathlib
 import struct
 import sys
 
-VERSION = 40001  # GUVONTSIRA_VERSION of include/guvontsira.h, whose numbers stand here too
+VERSION = 40100  # GUVONTSIRA_VERSION of include/guvontsira.h, whose numbers stand here too
 
 CLOCK, SESSION, SETUP, PRICES, ORDER, CANCEL, MATCH, REST, FIGURES = range(1, 10)
 CLOSED, PRE_OPEN, OPEN, BREAK, PRE_CLOSE = range(5)

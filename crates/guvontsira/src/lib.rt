@@ -9,7 +9,7 @@ ghost use Rattle.histories.specs.Ran.{Ran, cut};
 ghost use Rattle.guvontsira.specs.Version.{version};
 use ladder::Ladder;
 
-const VERSION: u32 = 40_001;
+const VERSION: u32 = 40_100;
 
 #[no_mangle]
 pub extern "C" fn guvontsira_make(words: &mut [u32], customers: u32, securities: u32) -> u32
