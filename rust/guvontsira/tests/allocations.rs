@@ -43,7 +43,7 @@ fn least(mut work: impl FnMut()) -> usize {
 }
 
 #[test]
-fn none_for_an_event_that_is_sent() {
+fn none_for_an_event_or_an_auction() {
     let mut state = State::new(8, 16).unwrap();
     let order = Event::Order {
         customer: 0,
