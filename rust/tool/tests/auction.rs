@@ -160,6 +160,31 @@ fn bad_books() {
     );
 }
 
+/// docs/TEXT.md: its book with what the tool writes, and what it says to refused ones.
+#[test]
+fn as_printed() {
+    let text = fs::read_to_string(samples().join("../docs/TEXT.md")).unwrap();
+    let (_, text) = text.split_once("\n## The text of a book\n").unwrap();
+    let blocks: Vec<&str> = text.split("```").collect();
+    let [book, table] = [blocks[1], blocks[3]].map(|block| block.strip_prefix("text\n").unwrap());
+    assert_eq!(auction(book), table);
+
+    let (_, rows) = text
+        .split_once("| said by the tool |\n|---|---|\n")
+        .unwrap();
+    let mut refused = 0;
+    for row in rows.lines().map_while(|row| row.strip_prefix("| `")) {
+        let (line, said) = row
+            .strip_suffix("` |")
+            .unwrap()
+            .split_once("` | `")
+            .unwrap();
+        assert_eq!(error(&["auction"], line.as_bytes(), 1), format!("{said}\n"));
+        refused += 1;
+    }
+    assert_eq!(refused, 4);
+}
+
 /// The orders are counted, not the lines; too many are found before a bad one.
 #[test]
 fn too_many_orders() {
