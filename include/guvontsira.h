@@ -8,7 +8,8 @@
  * would give.
  *
  * Promised: every function ends, whatever the words and bytes; it writes only
- * what it was lent for writing; a refusal (1 to 15) changes no word.
+ * what it was lent for writing; a refusal changes no word (1 to 13) and no place of
+ * a scratch list (14 and 15).
  *
  * Owed by the caller: each pointer is valid for the length that follows it
  * (a count of its type) and aligned for its type, also where that length is 0:
@@ -257,10 +258,10 @@ enum guvontsira_row_word {
 };
 
 /*
- * Answers to an event. 0 is ok. A refusal is the number of the condition that was found
- * first, below 100. A verdict on an order is 100 for accept, 100 and the warning's
- * number, or 200 and the place of the rejecting rule's letter in the alphabet (P
- * is the 16th). So an order may go out if its answer is 100 to 199. An order that
+ * Answers to an event. 0 is ok. A refusal is the number of the condition that was
+ * found first, below 100. A verdict on an order is 100 for accept, 100 and the
+ * warning's number, or 200 and the place of the rejecting rule's letter in the
+ * alphabet (P is the 16th). So an order may go out if its answer is 100 to 199. An order that
  * meets several rules gets the first in this order: S V C Q W P, warn 30, warn 10.
  * A price rule whose reference is absent does not apply. docs/RULES.md has the
  * rules with their edges.
@@ -324,7 +325,8 @@ enum guvontsira_answer {
  * of events, and no event gets one.
  */
 enum guvontsira_auction_refusal {
-    /* More than GUVONTSIRA_MAX_AUCTION_ORDERS orders, or a scratch list with fewer places. */
+    /* More than GUVONTSIRA_MAX_AUCTION_ORDERS orders, or a scratch list with fewer
+       places than that. */
     GUVONTSIRA_AUCTION_REFUSED_LENGTH = 14,
     /* In any place an order with a side that is no code, a price that is neither 0
        nor legal, or a volume that is not 1 to GUVONTSIRA_MAX_VOLUME. */

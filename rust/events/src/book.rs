@@ -7,6 +7,9 @@ use crate::words::{LIMIT, SIDES, TYPES};
 
 const REFERENCE: &str = "reference";
 
+/// What a line begins with.
+const FIRST_WORDS: [&str; 3] = [SIDES.words[0], SIDES.words[1], REFERENCE];
+
 /// The types that an auction knows: an MP order waits for no auction.
 const AUCTION_TYPES: &[&str] = TYPES.words.split_at(3).0;
 
@@ -56,10 +59,9 @@ pub fn book(text: &str) -> Result<Book, Wrong> {
 }
 
 fn order(first: &str, line: usize, words: &mut LineWords) -> Result<BookOrder, String> {
-    let [buy, sell] = [SIDES.words[0], SIDES.words[1]];
     let side = SIDES
         .code(first)
-        .ok_or_else(|| expected(first, AnyOf(&[buy, sell, REFERENCE])))?;
+        .ok_or_else(|| expected(first, AnyOf(&FIRST_WORDS)))?;
     let order_type = words.read(AnyOf(AUCTION_TYPES), |word| {
         TYPES.code(word).filter(|_| AUCTION_TYPES.contains(&word))
     })?;

@@ -13,7 +13,8 @@ pub const MAX_AUCTION_ORDERS: usize = 1_024;
 #[derive(Clone, Copy, Debug, PartialEq, Eq, Hash)]
 pub struct AuctionOrder {
     pub side: Side,
-    /// Of a limit, in satang; `None` for ATO or ATC.
+    /// Of a limit, in satang; `None` for ATO or ATC. A limit of 0 is off the ladder,
+    /// and refused.
     pub price: Option<u32>,
     /// 1 to 20,000,000.
     pub volume: u32,
@@ -25,8 +26,8 @@ impl AuctionOrder {
             side: self.side.code().into(),
             price: match self.price {
                 None => 0,
-                // To the library 0 is ATO or ATC. A limit of 0 is refused, as every
-                // price off the ladder is.
+                // To the library 0 is ATO or ATC: it is told another price that is
+                // off the ladder.
                 Some(0) => u32::MAX,
                 Some(price) => price,
             },
@@ -190,5 +191,20 @@ fn known(numbers: library::AuctionNumbers) -> AuctionAnswer {
         (14, _) => AuctionAnswer::Refused(14),
         (15, _) => AuctionAnswer::Refused(15),
         _ => panic!("the linked library refuses with {refusal}, which is no auction's refusal"),
+    }
+}
+
+#[cfg(test)]
+mod tests {
+    use super::*;
+
+    #[test]
+    #[should_panic(expected = "refuses with 16")]
+    fn an_unknown_refusal() {
+        known(library::AuctionNumbers {
+            volume: 0,
+            price: 0,
+            refusal: 16,
+        });
     }
 }
