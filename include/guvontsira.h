@@ -3,18 +3,22 @@
  *
  * One state serves one trading day. It is an array of 32-bit words that the
  * caller lends to every call; the library keeps nothing itself and allocates
- * nothing. Events are handed in as bytes, and each gets one answer number.
+ * nothing. Events are handed in as bytes, and each gets one answer number. Beside
+ * the state, guvontsira_auction gives the price that an auction of a list of orders
+ * would give.
  *
  * Promised: every function ends, whatever the words and bytes; it writes only
- * what it was lent for writing; a refusal (1 to 13) changes no word.
+ * what it was lent for writing; a refusal changes no word (1 to 13) and no place of
+ * a scratch list (14 and 15).
  *
  * Owed by the caller: each pointer is valid for the length that follows it
  * (a count of its type) and aligned for its type, also where that length is 0:
- * never null. The words and the answers overlap nothing else that is handed in,
- * and nobody else reads or writes them, or writes the bytes and the lengths,
- * during a call. So one state must not be used by two calls at once, but for the
- * two that only read it (guvontsira_floor, guvontsira_ceiling); calls on different
- * states may run at the same time.
+ * never null. The words, the answers and the scratch lists overlap nothing else
+ * that is handed in, and nobody else reads or writes them, or writes the bytes,
+ * the lengths and the orders, during a call. So one state must not be used by two
+ * calls at once, but for the two that only read it (guvontsira_floor,
+ * guvontsira_ceiling); calls on different states, and auctions with different
+ * scratch lists, may run at the same time.
  *
  * Link with libguvontsira.a, which needs only memcpy and memset. It is compiled
  * for x86-64 Linux. The words are in the machine's byte order, which is
@@ -44,7 +48,7 @@ extern "C" {
  * no byte, answer or word differs. guvontsira_version gives the library's; a
  * program stops where the two differ.
  */
-#define GUVONTSIRA_VERSION 40001 /* 4.0.1 */
+#define GUVONTSIRA_VERSION 40100 /* 4.1.0 */
 
 #define GUVONTSIRA_MAX_CUSTOMERS 256
 #define GUVONTSIRA_MAX_SECURITIES 1024
@@ -52,6 +56,7 @@ extern "C" {
 #define GUVONTSIRA_MAX_PRICE 10000000  /* satang: 100,000.00 baht */
 #define GUVONTSIRA_MAX_POSITION 51100  /* of GUVONTSIRA_MAX_PRICE */
 #define GUVONTSIRA_MAX_VOLUME 20000000 /* shares in one order */
+#define GUVONTSIRA_MAX_AUCTION_ORDERS 1024 /* in a list; each scratch list has as many places */
 #define GUVONTSIRA_STACK_BYTES 16384
 
 /*
@@ -253,10 +258,10 @@ enum guvontsira_row_word {
 };
 
 /*
- * Answers. 0 is ok. A refusal is the number of the condition that was found
- * first, below 100. A verdict on an order is 100 for accept, 100 and the warning's
- * number, or 200 and the place of the rejecting rule's letter in the alphabet (P
- * is the 16th). So an order may go out if its answer is 100 to 199. An order that
+ * Answers to an event. 0 is ok. A refusal is the number of the condition that was
+ * found first, below 100. A verdict on an order is 100 for accept, 100 and the
+ * warning's number, or 200 and the place of the rejecting rule's letter in the
+ * alphabet (P is the 16th). So an order may go out if its answer is 100 to 199. An order that
  * meets several rules gets the first in this order: S V C Q W P, warn 30, warn 10.
  * A price rule whose reference is absent does not apply. docs/RULES.md has the
  * rules with their edges.
@@ -313,7 +318,38 @@ enum guvontsira_answer {
     GUVONTSIRA_REJECT_W = 223
 };
 
-#define GUVONTSIRA_LAST_REFUSAL GUVONTSIRA_REFUSED_FIGURES
+#define GUVONTSIRA_LAST_REFUSAL GUVONTSIRA_REFUSED_FIGURES /* of an event */
+
+/*
+ * The refusals of guvontsira_auction, the first that is met. They follow on those
+ * of events, and no event gets one.
+ */
+enum guvontsira_auction_refusal {
+    /* More than GUVONTSIRA_MAX_AUCTION_ORDERS orders, or a scratch list with fewer
+       places than that. */
+    GUVONTSIRA_AUCTION_REFUSED_LENGTH = 14,
+    /* In any place an order with a side that is no code, a price that is neither 0
+       nor legal, or a volume that is not 1 to GUVONTSIRA_MAX_VOLUME. */
+    GUVONTSIRA_AUCTION_REFUSED_ORDER = 15
+};
+
+/* An order of an auction: 12 bytes; its fields begin at bytes 0, 4 and 8. */
+struct guvontsira_auction_order {
+    uint32_t side;   /* enum guvontsira_side */
+    uint32_t price;  /* of a limit, in satang; 0 for ATO or ATC */
+    uint32_t volume; /* 1 to GUVONTSIRA_MAX_VOLUME */
+};
+
+/*
+ * The answer of an auction: 16 bytes; its fields begin at bytes 0, 8 and 12. A price
+ * stands with its volume, both above 0. Both are 0 where there is none, and where
+ * the list is refused.
+ */
+struct guvontsira_auction_answer {
+    uint64_t volume;
+    uint32_t price;   /* in satang */
+    uint32_t refusal; /* enum guvontsira_auction_refusal; else 0 */
+};
 
 /* The library's release; to be compared with GUVONTSIRA_VERSION. */
 uint32_t guvontsira_version(void);
@@ -376,6 +412,32 @@ size_t guvontsira_run_list(uint32_t *words, size_t word_count,
  */
 uint32_t guvontsira_floor(const uint32_t *words, size_t word_count, uint32_t security);
 uint32_t guvontsira_ceiling(const uint32_t *words, size_t word_count, uint32_t security);
+
+/*
+ * The price that an auction of these orders would give, and the volume it would
+ * trade; no state is looked at. A candidate is the price of a limit in the list. At
+ * a price, the buyers' sum is the volume of all buys that are ATO, ATC or limits at
+ * or above it, the sellers' sum that of all sells that are ATO, ATC or limits at or
+ * below it, and the smaller sum is the volume. Given is the candidate with
+ *
+ *     1. the most volume; of several
+ *     2. the least difference of the two sums; of several
+ *     3. the least distance to the reference; of two
+ *     4. the higher;
+ *
+ * and none exactly where no candidate has volume above 0. The reference is any
+ * number, as a rule the last sale in satang; with 0, step 3 gives the lowest.
+ *
+ * The two scratch lists have GUVONTSIRA_MAX_AUCTION_ORDERS places or more, whatever
+ * they hold. Afterwards buyers[i] and sellers[i] are the two sums at the price of
+ * orders[i], and 0 where that is ATO or ATC; places past the last order are
+ * untouched, and so are all after a refusal. Each limit is held to every order: the
+ * time grows with the square of the count.
+ */
+struct guvontsira_auction_answer
+guvontsira_auction(const struct guvontsira_auction_order *orders, size_t order_count,
+                   uint32_t reference, uint64_t *buyers, size_t buyers_length,
+                   uint64_t *sellers, size_t sellers_length);
 
 /* The ladder position of a price in satang; 0 if it is off the ladder. */
 uint32_t guvontsira_position(uint32_t price);
@@ -533,8 +595,8 @@ static inline size_t guvontsira_figures_event(uint8_t *out, uint16_t security, u
 }
 
 /*
- * An answer in the words of the day program's listing; "unknown" for a number
- * that is no answer of this release.
+ * An answer to an event in the words of the day program's listing; "unknown" for
+ * any other number, also for the refusals of an auction.
  */
 static inline const char *guvontsira_answer_text(uint32_t answer)
 {

@@ -739,6 +739,158 @@ static void full_desk(void)
            GUVONTSIRA_TYPE_MP);
 }
 
+enum { BUY = GUVONTSIRA_SIDE_BUY, SELL = GUVONTSIRA_SIDE_SELL };
+enum { MOST_ORDERS = GUVONTSIRA_MAX_AUCTION_ORDERS, HELD = 7 };
+
+/* Source document 002's book, and 003's. */
+static const struct guvontsira_auction_order book_002[] = {
+    {BUY, 0, 1000},      {BUY, 10300, 1000}, {BUY, 10300, 1300},  {BUY, 10200, 500},
+    {BUY, 10200, 1100},  {BUY, 10100, 800},  {BUY, 10100, 300},   {SELL, 10200, 2500},
+    {SELL, 10200, 1000}, {SELL, 10300, 500}, {SELL, 10400, 1000}, {SELL, 10500, 1500},
+    {SELL, 10600, 500}};
+static const struct guvontsira_auction_order book_003[] = {
+    {BUY, 4900, 900}, {BUY, 4800, 300}, {SELL, 4900, 400}, {SELL, 5200, 4400}, {SELL, 0, 600}};
+
+/* One order more than there may be. */
+static struct guvontsira_auction_order orders[MOST_ORDERS + 1];
+static uint64_t buyers[MOST_ORDERS], sellers[MOST_ORDERS];
+
+static struct guvontsira_auction_answer auction(const struct guvontsira_auction_order *list,
+                                                size_t count, uint32_t reference)
+{
+    for (size_t place = 0; place < MOST_ORDERS; place++) {
+        buyers[place] = sellers[place] = HELD;
+    }
+    return guvontsira_auction(list, count, reference, buyers, MOST_ORDERS, sellers, MOST_ORDERS);
+}
+
+/* From this place on the scratch lists hold what they held. */
+static void untouched_from(size_t place)
+{
+    for (; place < MOST_ORDERS; place++) {
+        if (buyers[place] != HELD || sellers[place] != HELD) {
+            same("scratch place", place, 1, 0);
+        }
+    }
+}
+
+static void auction_gives(struct guvontsira_auction_answer answer, uint32_t price, uint64_t volume)
+{
+    same("auction's price", price, price, answer.price);
+    same("auction's volume", volume, volume, answer.volume);
+    same("auction's refusal", 0, 0, answer.refusal);
+}
+
+/* The answer is the refusal of this name alone, and the scratch lists are untouched. */
+#define AUCTION_REFUSES(name, answer)                        \
+    do {                                                     \
+        const struct guvontsira_auction_answer got = answer; \
+        ANSWERS(name, got.refusal);                          \
+        same("its price", 0, 0, got.price);                  \
+        same("its volume", 0, 0, got.volume);                \
+        untouched_from(0);                                   \
+    } while (0)
+
+static void sums_at(size_t place, uint64_t buying, uint64_t selling)
+{
+    same("buyers' sum", buying, buying, buyers[place]);
+    same("sellers' sum", selling, selling, sellers[place]);
+}
+
+static void layouts(void)
+{
+    same("bytes of an order", 12, 12, sizeof(struct guvontsira_auction_order));
+    same("side at byte", 0, 0, offsetof(struct guvontsira_auction_order, side));
+    same("price at byte", 4, 4, offsetof(struct guvontsira_auction_order, price));
+    same("volume at byte", 8, 8, offsetof(struct guvontsira_auction_order, volume));
+    same("bytes of an answer", 16, 16, sizeof(struct guvontsira_auction_answer));
+    same("volume at byte", 0, 0, offsetof(struct guvontsira_auction_answer, volume));
+    same("price at byte", 8, 8, offsetof(struct guvontsira_auction_answer, price));
+    same("refusal at byte", 12, 12, offsetof(struct guvontsira_auction_answer, refusal));
+}
+
+/* Request 5: what the documents print, the four steps, and none. */
+static void auctions(void)
+{
+    struct guvontsira_auction_order pair[] = {{BUY, 200, 100}, {SELL, 206, 100}, {BUY, 0, 100},
+                                              {SELL, 0, 100}};
+
+    layouts();
+    auction_gives(auction(book_002, COUNT(book_002), 0), 10200, 3500);
+    sums_at(0, 0, 0);
+    sums_at(1, 3300, 4000);
+    sums_at(3, 4900, 3500);
+    sums_at(5, 6000, 0);
+    sums_at(10, 1000, 5000);
+    sums_at(11, 1000, 6500);
+    sums_at(12, 1000, 7000);
+    untouched_from(COUNT(book_002));
+    auction_gives(auction(book_003, COUNT(book_003), UINT32_MAX), 4900, 900);
+    sums_at(0, 900, 1000);
+    sums_at(1, 1200, 600);
+    sums_at(3, 0, 5400);
+    sums_at(4, 0, 0);
+    untouched_from(COUNT(book_003));
+
+    /* 2.00 has 200 buying and 100 selling, 2.06 the other way round. */
+    auction_gives(auction(pair, COUNT(pair), 202), 200, 100);
+    auction_gives(auction(pair, COUNT(pair), 203), 206, 100);
+    auction_gives(auction(pair, COUNT(pair), UINT32_MAX), 206, 100);
+    pair[1].volume = 101;
+    auction_gives(auction(pair, COUNT(pair), 203), 200, 100);
+
+    /* No orders; the two limits do not meet; there is no limit. */
+    auction_gives(auction(orders, 0, 5000), 0, 0);
+    untouched_from(0);
+    auction_gives(auction(pair, 2, 203), 0, 0);
+    sums_at(0, 100, 0);
+    sums_at(1, 0, 101);
+    auction_gives(auction(pair + 2, 2, 203), 0, 0);
+    sums_at(0, 0, 0);
+    sums_at(1, 0, 0);
+    untouched_from(2);
+}
+
+static void auction_refusals(void)
+{
+    struct guvontsira_auction_order *const last = orders + MOST_ORDERS - 1;
+    const struct guvontsira_auction_order good = {SELL, GUVONTSIRA_MAX_PRICE,
+                                                  GUVONTSIRA_MAX_VOLUME};
+
+    for (size_t place = 0; place < MOST_ORDERS; place++) {
+        orders[place] = (struct guvontsira_auction_order){BUY, 0, GUVONTSIRA_MAX_VOLUME};
+    }
+    *last = good;
+    auction_gives(auction(orders, MOST_ORDERS, 0), GUVONTSIRA_MAX_PRICE, GUVONTSIRA_MAX_VOLUME);
+    sums_at(MOST_ORDERS - 1, (uint64_t)GUVONTSIRA_MAX_VOLUME * (MOST_ORDERS - 1),
+            GUVONTSIRA_MAX_VOLUME);
+    MEANS(MAX_AUCTION_ORDERS, GUVONTSIRA_AUCTION_REFUSED_LENGTH,
+          auction(orders, MOST_ORDERS + 1, 0).refusal);
+
+    /* A bad order in the last place, one field at a time. */
+    last->side = SELL + 1;
+    AUCTION_REFUSES(AUCTION_REFUSED_ORDER, auction(orders, MOST_ORDERS, 0));
+    *last = good;
+    last->price = GUVONTSIRA_MAX_PRICE - 1;
+    AUCTION_REFUSES(AUCTION_REFUSED_ORDER, auction(orders, MOST_ORDERS, 0));
+    last->price = GUVONTSIRA_MAX_PRICE + 200;
+    AUCTION_REFUSES(AUCTION_REFUSED_ORDER, auction(orders, MOST_ORDERS, 0));
+    *last = good;
+    last->volume = 0;
+    AUCTION_REFUSES(AUCTION_REFUSED_ORDER, auction(orders, MOST_ORDERS, 0));
+    last->volume = GUVONTSIRA_MAX_VOLUME + 1;
+    AUCTION_REFUSES(AUCTION_REFUSED_ORDER, auction(orders, MOST_ORDERS, 0));
+
+    /* The lengths are asked first. */
+    AUCTION_REFUSES(AUCTION_REFUSED_LENGTH, auction(orders, MOST_ORDERS + 1, 0));
+    AUCTION_REFUSES(AUCTION_REFUSED_LENGTH,
+                    guvontsira_auction(orders, MOST_ORDERS, 0, buyers, MOST_ORDERS - 1, sellers,
+                                       MOST_ORDERS));
+    AUCTION_REFUSES(AUCTION_REFUSED_LENGTH,
+                    guvontsira_auction(orders, 0, 0, buyers, MOST_ORDERS, sellers,
+                                       MOST_ORDERS - 1));
+}
+
 /* Every number that has words; those of the day program's listing. */
 static void texts(void)
 {
@@ -793,6 +945,7 @@ static void deepest(void)
     outside_answer = answers[5];
     guvontsira_floor(words, COUNT(words), 0);
     guvontsira_ceiling(words, COUNT(words), 0);
+    guvontsira_auction(book_002, COUNT(book_002), 0, buyers, MOST_ORDERS, sellers, MOST_ORDERS);
     guvontsira_price(77);
     guvontsira_lower_position(6560);
     guvontsira_upper_position(6560);
@@ -840,6 +993,8 @@ int main(void)
     ranges();
     verdicts();
     full_desk();
+    auctions();
+    auction_refusals();
     texts();
     depth();
     return status;

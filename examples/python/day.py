@@ -1,4 +1,5 @@
-"""Hands the paper's example events, and some of every other kind, to the gate by ctypes, lists the answers and reads a customer's desk.
+"""Hands the paper's example events, and some of every other kind, to the gate by ctypes, lists the answers and reads a customer's desk;
+then asks for the price of an auction.
 
 The archive as a shared object, from the project's root; then this program:
 
@@ -11,7 +12,7 @@ import pathlib
 import struct
 import sys
 
-VERSION = 40001  # GUVONTSIRA_VERSION of include/guvontsira.h, whose numbers stand here too
+VERSION = 40100  # GUVONTSIRA_VERSION of include/guvontsira.h, whose numbers stand here too
 
 CLOCK, SESSION, SETUP, PRICES, ORDER, CANCEL, MATCH, REST, FIGURES = range(1, 10)
 CLOSED, PRE_OPEN, OPEN, BREAK, PRE_CLOSE = range(5)
@@ -36,7 +37,23 @@ FORMATS = {
 
 HEADER_WORDS, SECURITY_WORDS, DESK_WORDS, ROW_WORDS, DESK_ROWS = 4, 17, 291, 9, 32
 
+MAX_AUCTION_ORDERS = 1024
+
 Words = ctypes.POINTER(ctypes.c_uint32)
+
+
+class AuctionOrder(ctypes.Structure):
+    """The price is 0 for ATO or ATC."""
+
+    _fields_ = [("side", ctypes.c_uint32), ("price", ctypes.c_uint32), ("volume", ctypes.c_uint32)]
+
+
+class AuctionAnswer(ctypes.Structure):
+    _fields_ = [("volume", ctypes.c_uint64), ("price", ctypes.c_uint32), ("refusal", ctypes.c_uint32)]
+
+
+# Lent to every auction; afterwards the two sums at the price of each order.
+Sums = ctypes.c_uint64 * MAX_AUCTION_ORDERS
 
 
 def load(path):
@@ -52,6 +69,11 @@ def load(path):
         function = getattr(library, f"guvontsira_{name}")
         function.argtypes = [Words, ctypes.c_size_t, ctypes.c_uint32]
         function.restype = ctypes.c_uint32
+    sums = ctypes.POINTER(ctypes.c_uint64)
+    library.guvontsira_auction.argtypes = [
+        ctypes.POINTER(AuctionOrder), ctypes.c_size_t, ctypes.c_uint32, sums, ctypes.c_size_t, sums, ctypes.c_size_t
+    ]
+    library.guvontsira_auction.restype = AuctionAnswer
     version = library.guvontsira_version()
     if version != VERSION:
         raise SystemExit(f"{path} is release {version}, and this program was written for {VERSION}")
@@ -96,6 +118,16 @@ class State:
         return self.library.guvontsira_floor(*lent), self.library.guvontsira_ceiling(*lent)
 
 
+def auction(library, orders, reference):
+    """The price in satang and its volume; 0 and 0 if there is none."""
+    lent = (AuctionOrder * len(orders))(*orders)
+    buyers, sellers = Sums(), Sums()
+    answer = library.guvontsira_auction(lent, len(lent), reference, buyers, len(buyers), sellers, len(sellers))
+    if answer.refusal != 0:
+        raise ValueError(text(answer.refusal))
+    return answer.price, answer.volume
+
+
 DAY = [
     (SESSION, OPEN),
     (PRICES, 0, MAIN, 0, 5000, 4975, 5025),
@@ -121,11 +153,15 @@ DAY = [
     (ORDER, 1, 1, 2, MAIN, BUY, LIMIT, FRONT_OFFICE, 8575, 100),
 ]
 
+# The book that source document 003 prints.
+BOOK = [(BUY, 4900, 900), (BUY, 4800, 300), (SELL, 4900, 400), (SELL, 5200, 4400), (SELL, 0, 600)]
+
 
 def main():
     root = pathlib.Path(__file__).resolve().parents[2]
     path = sys.argv[1] if len(sys.argv) > 1 else str(root / "target" / "libguvontsira.so")
-    state = State(load(path), 8, 16)
+    library = load(path)
+    state = State(library, 8, 16)
     print("screen 8 16")
     for index, (kind, *fields) in enumerate(DAY):
         print(index, kind, text(state.send(kind, *fields)))
@@ -136,6 +172,8 @@ def main():
         print(f"order {number}: security {security}, {'sell' if side == SELL else 'buy'} {volume} at {price / 100:.2f}, {what}")
     floor, ceiling = state.floor_and_ceiling(2)
     print(f"security 2: floor {floor / 100:.2f}, ceiling {ceiling / 100:.2f}")
+    price, volume = auction(library, BOOK, 0)
+    print(f"auction: price {price / 100:.2f}, volume {volume}")
 
 
 if __name__ == "__main__":

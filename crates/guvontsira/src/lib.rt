@@ -12,7 +12,7 @@ use auction_definitions::AuctionNumbers;
 use auction_definitions::AuctionOrder;
 use ladder::Ladder;
 
-const VERSION: u32 = 40_001;
+const VERSION: u32 = 40_100;
 
 #[no_mangle]
 pub extern "C" fn guvontsira_make(words: &mut [u32], customers: u32, securities: u32) -> u32

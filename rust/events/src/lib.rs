@@ -1,4 +1,5 @@
-//! Events of the order gate as text, one line an event.
+//! Events of the order gate as text, one line an event; and an auction's book, one
+//! line an order.
 //!
 //! ```text
 //! # What follows a number sign is a comment.
@@ -38,9 +39,21 @@
 //! and a rest may have the price `-`. So every event of a known kind and a whole
 //! length has a line, and the line gives its bytes back. Last, `bytes 0a ff`
 //! stands for those bytes as they are, an unknown kind or a part of an event.
+//!
+//! An auction's book is another text, with the same words, comments and prices:
+//!
+//! ```text
+//! reference 49.50
+//! buy limit 49.00 x 900
+//! sell ato x 600
+//! ```
+//!
+//! - `buy` or `sell`; `limit` and a price, or `ato` or `atc`; `x` and the volume.
+//! - `reference` and a price, on a line at most; left out it is absent.
 
 #![forbid(unsafe_code)]
 
+mod book;
 mod convert;
 mod expected;
 mod format;
@@ -49,6 +62,7 @@ mod parse;
 mod values;
 pub mod words;
 
+pub use book::{Book, BookOrder, book};
 pub use convert::{Broken, Wrong, decode, encode, encode_each, line, lines, split, text};
 pub use expected::{AnyOf, expected};
 pub use format::{Code, Price};

@@ -8,6 +8,8 @@ use crate::expected::{AnyOf, expected};
 use crate::values::{is_digits, number, satang, time};
 use crate::words::{ABSENT, Codes};
 
+const PRICE: &str = "a price in baht, as 50.25";
+
 /// The words of a line that are not yet read.
 pub struct LineWords<'a>(Peekable<SplitWhitespace<'a>>);
 
@@ -30,7 +32,7 @@ impl<'a> LineWords<'a> {
     }
 
     /// The next word, as `read` reads it.
-    fn read<T>(
+    pub fn read<T>(
         &mut self,
         wanted: impl Display,
         read: impl FnOnce(&str) -> Option<T>,
@@ -85,13 +87,23 @@ impl<'a> LineWords<'a> {
     }
 
     pub fn price(&mut self) -> Result<u32, String> {
-        self.read("a price in baht, as 50.25", price)
+        self.read(PRICE, price)
+    }
+
+    /// A price that is not absent.
+    pub fn present_price(&mut self) -> Result<u32, String> {
+        self.read(PRICE, |word| price(word).filter(|&satang| satang != 0))
     }
 
     /// A price where none is due: 0 if none stands there.
     pub fn price_if_any(&mut self) -> u32 {
         let found = self.0.next_if(|word| price(word).is_some());
         found.and_then(price).unwrap_or(0)
+    }
+
+    pub fn volume(&mut self) -> Result<u32, String> {
+        self.keyword("x")?;
+        self.number("a volume", u32::MAX)
     }
 
     pub fn time(&mut self) -> Result<u32, String> {

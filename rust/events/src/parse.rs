@@ -105,7 +105,7 @@ fn order(words: &mut LineWords) -> Result<Event, String> {
         LIMIT => words.price()?,
         _ => words.price_if_any(),
     };
-    let volume = volume(words)?;
+    let volume = words.volume()?;
     let channel = words.code(&CHANNELS)?;
     Ok(Event::Order(Order {
         customer,
@@ -130,7 +130,7 @@ fn match_report(words: &mut LineWords) -> Result<Event, String> {
     Ok(Event::Match {
         customer,
         number,
-        volume: volume(words)?,
+        volume: words.volume()?,
     })
 }
 
@@ -171,11 +171,6 @@ fn customer_and_number(words: &mut LineWords) -> Result<(u16, u32), String> {
     words.keyword("no")?;
     let number = words.number("an order number", u32::MAX)?;
     Ok((customer, number))
-}
-
-fn volume(words: &mut LineWords) -> Result<u32, String> {
-    words.keyword("x")?;
-    words.number("a volume", u32::MAX)
 }
 
 fn shares(words: &mut LineWords, keyword: &str) -> Result<u16, String> {

@@ -39,7 +39,7 @@ pub enum Answer {
     Refused(u8),
 }
 
-/// The highest refusal number of this release.
+/// The highest refusal of an event in this release; those of an auction follow.
 const LAST_REFUSAL: u32 = 13;
 
 const REJECTS: [(Rule, u32); 6] = [

@@ -23,6 +23,7 @@
 #![warn(missing_debug_implementations)]
 
 mod answer;
+mod auction;
 mod codes;
 mod desk;
 mod event;
@@ -36,6 +37,7 @@ mod state;
 mod time;
 
 pub use answer::{Answer, Refused, Rule};
+pub use auction::{Auction, AuctionAnswer, AuctionOrder, MAX_AUCTION_ORDERS};
 pub use codes::{Board, Channel, Mark, OrderType, Session, Side};
 pub use desk::{Desk, Row};
 pub use event::Event;

@@ -5,7 +5,10 @@ use std::alloc::{GlobalAlloc, Layout, System};
 use std::hint::black_box;
 use std::sync::atomic::{AtomicUsize, Ordering};
 
-use guvontsira::{Answer, Board, Channel, Event, OrderType, Session, Side, State, Time};
+use guvontsira::{
+    Answer, Auction, AuctionAnswer, AuctionOrder, Board, Channel, Event, MAX_AUCTION_ORDERS,
+    OrderType, Session, Side, State, Time,
+};
 
 struct Counting;
 
@@ -40,7 +43,7 @@ fn least(mut work: impl FnMut()) -> usize {
 }
 
 #[test]
-fn none_for_an_event_that_is_sent() {
+fn none_for_an_event_or_an_auction() {
     let mut state = State::new(8, 16).unwrap();
     let order = Event::Order {
         customer: 0,
@@ -141,6 +144,25 @@ fn none_for_an_event_that_is_sent() {
         assert!(state.range(0).is_some());
     });
     assert_eq!(sent, 0);
+    auctions();
     // That the allocator counts.
     assert!(least(|| drop(black_box(order.bytes()))) > 0);
+}
+
+/// Also for a list that is longer than any the library takes.
+fn auctions() {
+    let order = AuctionOrder {
+        side: Side::Buy,
+        price: Some(50_00),
+        volume: 100,
+    };
+    let orders = [order; MAX_AUCTION_ORDERS + 2];
+    let mut auction = Auction::new();
+    let asked = least(|| {
+        let (longest, longer) = (&orders[..MAX_AUCTION_ORDERS], &orders);
+        assert!(auction.price(longest, 0) == AuctionAnswer::None);
+        assert!(auction.buyers()[0] == 102_400 && auction.sellers()[0] == 0);
+        assert!(auction.price(longer, 0) == AuctionAnswer::Refused(14));
+    });
+    assert_eq!(asked, 0);
 }

@@ -3,7 +3,10 @@
 
 use std::fs;
 
-use guvontsira::{Answer, Nearest, Range, State, nearest, position, price};
+use guvontsira::{
+    Answer, Auction, AuctionAnswer, AuctionOrder, Nearest, Range, Side, State, nearest, position,
+    price,
+};
 
 fn document(name: &str) -> String {
     let path = format!("{}/../../docs/{name}", env!("CARGO_MANIFEST_DIR"));
@@ -302,6 +305,35 @@ fn a_desk_full_of_mp_rows() {
     }
 }
 
+/// The answer in the words of the table.
+fn auction(orders: &str, reference: &str) -> String {
+    let text = format!("reference {reference}\n{}", orders.replace("; ", "\n"));
+    let book = events::book(&text).unwrap_or_else(|wrong| panic!("{text}: {wrong}"));
+    let orders = book.orders.iter().map(|order| AuctionOrder {
+        side: Side::from_code(order.side.into()).unwrap(),
+        price: order.price,
+        volume: order.volume,
+    });
+    match Auction::new().price(&orders.collect::<Vec<_>>(), book.reference) {
+        AuctionAnswer::Price { price, volume } => format!("{} x {volume}", events::Price(price)),
+        AuctionAnswer::None => "none".into(),
+        AuctionAnswer::Refused(number) => format!("refused {number}"),
+    }
+}
+
+#[test]
+fn the_auctions() {
+    let rules = document("RULES.md");
+    let rows = rows(section(&rules, "The price of an auction"));
+    let books = rows.iter().filter(|row| row.len() == 4);
+    for row in books.clone() {
+        assert_eq!(auction(&row[0], &row[1]), row[2], "{row:?}");
+    }
+    assert!(books.count() > 12);
+    let refusals = rows.iter().filter_map(|row| row[0].parse().ok());
+    assert_eq!(refusals.collect::<Vec<u8>>(), [14, 15]);
+}
+
 fn back(line: &str) -> String {
     let bytes = events::encode(line).unwrap_or_else(|wrong| panic!("{line}: {wrong}"));
     events::decode(&bytes).unwrap().trim_end().to_string()
@@ -334,6 +366,14 @@ fn the_text_form() {
     for row in rows(section(&text, "Errors in lines")) {
         assert_eq!(events::encode(&row[0]).unwrap_err().to_string(), row[1]);
     }
+    let mut books = 0;
+    for row in rows(section(&text, "Errors in a book")) {
+        if row[1].starts_with("line ") {
+            assert_eq!(events::book(&row[0]).unwrap_err().to_string(), row[1]);
+            books += 1;
+        }
+    }
+    assert!(books > 5);
     for row in rows(section(&text, "Errors in bytes")) {
         let bytes = events::encode(&row[0]).unwrap();
         assert_eq!(events::decode(&bytes).unwrap_err().to_string(), row[1]);

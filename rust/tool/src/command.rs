@@ -29,6 +29,9 @@ pub enum Command {
         /// In satang, 1 to [`MAX_PRICE`].
         price: u32,
     },
+    Auction {
+        file: PathBuf,
+    },
     Encode {
         file: PathBuf,
     },
@@ -56,7 +59,9 @@ pub struct Picked {
     pub only: Vec<usize>,
 }
 
-const COMMANDS: [&str; 6] = ["day", "desk", "security", "ladder", "encode", "decode"];
+const COMMANDS: [&str; 7] = [
+    "day", "desk", "security", "ladder", "auction", "encode", "decode",
+];
 const FILE: &str = "a file";
 
 impl Command {
@@ -74,6 +79,7 @@ impl Command {
             "desk" => desk(arguments),
             "security" => security(arguments),
             "ladder" => ladder(arguments),
+            "auction" => file_or_input(arguments).map(|file| Command::Auction { file }),
             "encode" => file_or_input(arguments).map(|file| Command::Encode { file }),
             "decode" => file_or_input(arguments).map(|file| Command::Decode { file }),
             other => Err(wrong(other, &commands)),

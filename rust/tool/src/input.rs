@@ -1,8 +1,10 @@
-//! Days from files and from standard input.
+//! Days and books from files and from standard input.
 
 use std::fs;
 use std::io::{self, Read};
 use std::path::Path;
+
+use events::{Book, Wrong};
 
 use crate::failure::Failure;
 
@@ -31,7 +33,21 @@ pub fn day(file: &Path) -> Result<Vec<Vec<u8>>, Failure> {
 pub fn events_of_text(file: &Path, bytes: &[u8]) -> Result<Vec<Vec<u8>>, Failure> {
     events::text(bytes)
         .and_then(events::encode_each)
-        .map_err(|wrong| Failure::Input(format!("{}:{}: {}", name(file), wrong.line, wrong.reason)))
+        .map_err(|wrong| bad_line(file, wrong))
+}
+
+/// The book of a text, an order a line.
+pub fn book(file: &Path) -> Result<Book, Failure> {
+    let bytes = read(file)?;
+    events::text(&bytes)
+        .and_then(events::book)
+        .map_err(|wrong| bad_line(file, wrong))
+}
+
+/// File, line and reason.
+pub fn bad_line(file: &Path, wrong: Wrong) -> Failure {
+    let Wrong { line, reason } = wrong;
+    Failure::Input(format!("{}:{line}: {reason}", name(file)))
 }
 
 /// A kind of event is a control character, and no text begins with one but for

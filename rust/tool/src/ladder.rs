@@ -35,7 +35,7 @@ pub fn write(out: &mut impl Write, price: u32) -> io::Result<()> {
     table::write(out, columns, &rows)
 }
 
-fn standing(price: u32, nearest: Nearest) -> String {
+pub fn standing(price: u32, nearest: Nearest) -> String {
     let price = Price(price);
     match nearest.legal {
         true => format!("{price} is legal, position {}", nearest.lower),

@@ -1,11 +1,13 @@
 //! The order gate from the command line, over the linked library: a day's
 //! answers and what they mean, a customer or a security after the day, the
-//! ladder, and the text form to bytes and back.
+//! ladder, the price that an auction would give, and the text form to bytes and
+//! back.
 
 #![forbid(unsafe_code)]
 
 mod answers;
 mod arguments;
+mod auction;
 mod command;
 mod day;
 mod desk;
@@ -69,6 +71,7 @@ fn carry_out(command: Command, out: &mut impl Write) -> Result<(), Failure> {
             security::write(out, &record, state.range(security))?;
         }
         Command::Ladder { price } => ladder::write(out, price)?,
+        Command::Auction { file } => auction::write(out, &file, &input::book(&file)?)?,
         Command::Encode { file } => {
             let text = input::read(&file)?;
             out.write_all(&input::events_of_text(&file, &text)?.concat())?;

@@ -6,7 +6,7 @@ use common::{error, out};
 
 #[test]
 fn usage() {
-    let commands = "expected day, desk, security, ladder, encode or decode";
+    let commands = "expected day, desk, security, ladder, auction, encode or decode";
     let table: &[(&[&str], &str)] = &[
         (&[], &format!("the command ends: {commands}")),
         (&["dya"], &format!("\"dya\": {commands}")),
@@ -82,6 +82,14 @@ fn usage() {
             "the command ends: expected a price in baht with two decimals, 0.01 to 100000.00",
         ),
         (
+            &["auction", "a", "b"],
+            r#""b": expected the end of the command"#,
+        ),
+        (
+            &["auction", "--reference", "102.00"],
+            r#""--reference": no such option here, or given twice"#,
+        ),
+        (
             &["encode", "a", "b"],
             r#""b": expected the end of the command"#,
         ),
@@ -130,6 +138,7 @@ fn help_and_version() {
         "desk FILE",
         "security FILE",
         "ladder PRICE",
+        "auction [BOOK]",
         "encode",
         "decode",
     ] {

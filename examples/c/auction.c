@@ -1,0 +1,54 @@
+/*
+ * The price that an auction of source document 002's book would give, with the sums
+ * at the price of each order. Valid in C++ too.
+ *
+ *     cc -std=c11 -Wall -Wextra -Werror -I include examples/c/auction.c \
+ *        target/staticlib/libguvontsira.a -o target/c-auction && target/c-auction
+ */
+#include <stdio.h>
+#include <stdlib.h>
+
+#include "guvontsira.h"
+
+enum { BUY = GUVONTSIRA_SIDE_BUY, SELL = GUVONTSIRA_SIDE_SELL, LAST_SALE = 10200 };
+
+#define COUNT(array) (sizeof(array) / sizeof(array)[0])
+
+/* Side, price in satang (0 is ATO or ATC), volume. */
+static const struct guvontsira_auction_order orders[] = {
+    {BUY, 0, 1000},      {BUY, 10300, 1000},  {BUY, 10300, 1300},  {BUY, 10200, 500},
+    {BUY, 10200, 1100},  {BUY, 10100, 800},   {BUY, 10100, 300},   {SELL, 10200, 2500},
+    {SELL, 10200, 1000}, {SELL, 10300, 500},  {SELL, 10400, 1000}, {SELL, 10500, 1500},
+    {SELL, 10600, 500}};
+
+/* Lent to every call; what they hold before it does not matter. */
+static uint64_t buyers[GUVONTSIRA_MAX_AUCTION_ORDERS];
+static uint64_t sellers[GUVONTSIRA_MAX_AUCTION_ORDERS];
+
+int main(void)
+{
+    if (guvontsira_version() != GUVONTSIRA_VERSION) {
+        fputs("guvontsira.h and libguvontsira.a are of two releases\n", stderr);
+        return EXIT_FAILURE;
+    }
+    const struct guvontsira_auction_answer answer =
+        guvontsira_auction(orders, COUNT(orders), LAST_SALE, buyers, COUNT(buyers), sellers,
+                           COUNT(sellers));
+    if (answer.refusal != 0) {
+        printf("refused %u\n", (unsigned)answer.refusal);
+        return EXIT_FAILURE;
+    }
+    for (size_t i = 0; i < COUNT(orders); i++) {
+        if (orders[i].price != 0) {
+            printf("%u buyers %llu sellers %llu\n", (unsigned)orders[i].price,
+                   (unsigned long long)buyers[i], (unsigned long long)sellers[i]);
+        }
+    }
+    if (answer.price == 0) {
+        puts("none");
+    } else {
+        printf("price %u volume %llu\n", (unsigned)answer.price,
+               (unsigned long long)answer.volume);
+    }
+    return EXIT_SUCCESS;
+}
