@@ -33,17 +33,6 @@ impl Order {
             && (!self.is_limit() || ladder::legal(self.price))
             && (1..=MAX_VOLUME).contains(&self.volume)
     }
-
-    /// "At a price, buyers are ATO, ATC and limits at or above it".
-    fn buys_at(&self, price: u32) -> bool {
-        self.side == Side::Buy.code() && (!self.is_limit() || self.price >= price)
-    }
-
-    /// "sellers are ATO, ATC and limits at or below it". ATO and ATC have price
-    /// 0, which is below every price.
-    fn sells_at(&self, price: u32) -> bool {
-        self.side == Side::Sell.code() && self.price <= price
-    }
 }
 
 /// How many shares buyers and sellers have at a price.
@@ -54,17 +43,23 @@ pub struct Sums {
 }
 
 impl Sums {
+    /// "At a price, buyers are ATO, ATC and limits at or above it; sellers are
+    /// ATO, ATC and limits at or below it."
     pub fn at(price: u32, orders: &[Order]) -> Sums {
         let mut sums = Sums {
             buyers: 0,
             sellers: 0,
         };
         for order in orders {
-            if order.buys_at(price) {
-                sums.buyers += u64::from(order.volume);
-            }
-            if order.sells_at(price) {
-                sums.sellers += u64::from(order.volume);
+            let volume = u64::from(order.volume);
+            match Side::from_code(order.side) {
+                Some(Side::Buy) if !order.is_limit() || order.price >= price => {
+                    sums.buyers += volume;
+                }
+                Some(Side::Sell) if !order.is_limit() || order.price <= price => {
+                    sums.sellers += volume;
+                }
+                _ => {}
             }
         }
         sums
