@@ -18,11 +18,11 @@ const BOOKS: usize = 400;
 #[derive(Clone, Copy, Debug)]
 enum Crossing {
     /// Every price is for both sides.
-    Some,
+    Mixed,
     /// Buyers from the middle up, sellers down.
-    All,
-    /// The other way round.
-    None,
+    Always,
+    /// The other way round: at most at the middle.
+    Hardly,
 }
 
 #[derive(Clone, Copy, Debug)]
@@ -63,10 +63,10 @@ impl Shape {
             middle: middle(random),
             prices: random.pick(&[1, 2, 3, 8, 40, 200, 1_200]),
             crossing: random.pick(&[
-                Crossing::Some,
-                Crossing::Some,
-                Crossing::All,
-                Crossing::None,
+                Crossing::Mixed,
+                Crossing::Mixed,
+                Crossing::Always,
+                Crossing::Hardly,
             ]),
             ato: random.pick(&[0, 0, 0, 8, 8, 2, 1]),
             one_side: random.once_in(16),
@@ -75,9 +75,10 @@ impl Shape {
     }
 
     fn order(&self, random: &mut Random) -> Order {
-        let side = match self.one_side {
-            true => self.middle % 2,
-            false => random.below(2),
+        let side = if self.one_side {
+            self.middle % 2
+        } else {
+            random.below(2)
         };
         let is_ato = self.ato > 0 && random.once_in(self.ato);
         let volume = match self.volumes {
@@ -94,9 +95,9 @@ impl Shape {
     fn price(&self, random: &mut Random, side: u32) -> u32 {
         let away = random.below(self.prices) as i32;
         let is_up = match self.crossing {
-            Crossing::Some => return step(self.middle, away - self.prices as i32 / 2),
-            Crossing::All => side == 0,
-            Crossing::None => side == 1,
+            Crossing::Mixed => return step(self.middle, away - self.prices as i32 / 2),
+            Crossing::Always => side == 0,
+            Crossing::Hardly => side == 1,
         };
         step(self.middle, if is_up { away } else { -away })
     }

@@ -36,30 +36,37 @@ fn list_with(length: usize, filler: Order, place: usize, order: Order) -> Vec<Or
 fn lengths(program: &mut Program, random: &mut Random) {
     for length in LENGTHS {
         let last = length.saturating_sub(1);
-        let lists = [
-            list_with(length, buy(50_00, 100), 0, sell(50_00, 700)),
-            list_with(length, buy(50_00, 100), last, sell(50_01, 100)),
-            list_with(length, sell(ATO, 100), last, buy(ATO, 100)),
-        ];
-        for (which, orders) in lists.iter().enumerate() {
-            for buyers in PLACES {
-                for sellers in PLACES {
-                    let expected = if length > 1_024 || buyers.min(sellers) < 1_024 {
-                        Answer::Refused(14)
-                    } else if which == 1 && length > 0 {
-                        Answer::Refused(15)
-                    } else if which == 0 && length > 1 {
-                        price(50_00, 700.min(100 * last as u64))
-                    } else {
-                        Answer::None
-                    };
-                    let call = Call::new(random, orders, 0, [buyers, sellers]);
-                    let name = format!("{length} orders, {buyers} and {sellers} places");
-                    says(program, &name, &call, expected);
-                }
+        let crossing = list_with(length, buy(50_00, 100), 0, sell(50_00, 700));
+        let given = match last {
+            0 => Answer::None,
+            _ => price(50_00, 700.min(100 * last as u64)),
+        };
+        let bad_at_last = list_with(length, buy(50_00, 100), last, sell(50_01, 100));
+        let turned_away = match length {
+            0 => Answer::None,
+            _ => Answer::Refused(15),
+        };
+        let without_limit = list_with(length, sell(ATO, 100), last, buy(ATO, 100));
+        for (orders, answer) in [
+            (crossing, given),
+            (bad_at_last, turned_away),
+            (without_limit, Answer::None),
+        ] {
+            for places in pairs(PLACES) {
+                let is_14 = length > 1_024 || places.iter().any(|&places| places < 1_024);
+                let expected = if is_14 { Answer::Refused(14) } else { answer };
+                let call = Call::new(random, &orders, 0, places);
+                let name = format!("{length} orders, {places:?} places");
+                says(program, &name, &call, expected);
             }
         }
     }
+}
+
+/// Each beside each.
+fn pairs<const N: usize>(numbers: [usize; N]) -> impl Iterator<Item = [usize; 2]> {
+    let beside = move |one| numbers.map(move |other| [one, other]);
+    numbers.into_iter().flat_map(beside)
 }
 
 /// Every sort: a wrong side, price or volume, in a limit and in an ATO.

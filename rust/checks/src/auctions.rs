@@ -3,6 +3,7 @@
 //! candidate, and lists without a price. Each case says its answer.
 
 use second::auction::{Answer, Order};
+use second::ladder;
 
 use crate::auction_comparison::Call;
 use crate::auction_lists;
@@ -28,6 +29,7 @@ pub fn run(program: &mut Program) {
             let [low, high] = [step(position, 0), step(position, away)];
             ties(program, &mut random, low, high);
         }
+        four_tied(program, &mut random, position);
         no_price(program, &mut random, position);
         different_prices(program, &mut random, position);
     }
@@ -130,29 +132,29 @@ fn documents(program: &mut Program, random: &mut Random) {
     }
 }
 
-/// Lists in which the first step, the first two and the first three leave more
-/// than one candidate.
+/// Lists in which one of the first two steps decides, and lists in which both
+/// leave two candidates, for the reference to choose from.
 fn ties(program: &mut Program, random: &mut Random, low: u32, high: u32) {
-    let mut says = |name: &str, orders: &[Order], reference, expected| {
+    let mut book = |name: &str, orders: &[Order], reference, expected| {
         let name = format!("{name}, {low} and {high}");
         expect(program, random, &name, orders, reference, expected);
     };
     for reference in [0, 1, low, high, u32::MAX] {
         let orders = [buy(high, 200), sell(low, 100), sell(high, 150)];
-        says("most volume", &orders, reference, price(high, 200));
+        book("most volume", &orders, reference, price(high, 200));
         let orders = [sell(low, 200), buy(high, 100), buy(low, 150)];
-        says("most volume", &orders, reference, price(low, 200));
+        book("most volume", &orders, reference, price(low, 200));
         let orders = [buy(high, 201), sell(low, 200), sell(high, 1)];
-        says("one share more", &orders, reference, price(high, 201));
+        book("one share more", &orders, reference, price(high, 201));
         let orders = [buy(high, 100), buy(low, 50), sell(low, 100)];
-        says("least difference", &orders, reference, price(high, 100));
+        book("least difference", &orders, reference, price(high, 100));
         let orders = [sell(low, 100), sell(high, 50), buy(high, 100)];
-        says("least difference", &orders, reference, price(low, 100));
+        book("least difference", &orders, reference, price(low, 100));
         // Buyers are left at the low price and sellers at the high one.
         let orders = [buy(high, 100), buy(low, 30), sell(low, 100), sell(high, 31)];
-        says("difference 30 and 31", &orders, reference, price(low, 100));
+        book("difference 30 and 31", &orders, reference, price(low, 100));
         let orders = [buy(high, 100), buy(low, 31), sell(low, 100), sell(high, 30)];
-        says("difference 31 and 30", &orders, reference, price(high, 100));
+        book("difference 31 and 30", &orders, reference, price(high, 100));
     }
     let tied: [&[Order]; 4] = [
         &[buy(high, 100), sell(low, 100)],
@@ -161,35 +163,54 @@ fn ties(program: &mut Program, random: &mut Random, low: u32, high: u32) {
         &[[buy(high, 1); 100], [sell(low, 1); 100]].concat(),
     ];
     for orders in tied {
-        let name = "least distance";
-        for reference in references(low, high) {
-            let expected = price(nearer(reference, low, high), 100);
-            says(name, orders, reference, expected);
+        for reference in references(&[low, high]) {
+            let expected = price(nearest(reference, &[low, high]), 100);
+            book("tied", orders, reference, expected);
         }
     }
 }
 
-/// Around two prices, half way between them, and at both ends.
-fn references(low: u32, high: u32) -> Vec<u32> {
-    let middle = low.midpoint(high);
-    let around = [0, 1, low, middle, high, u32::MAX];
-    let around = around.into_iter().flat_map(|reference| {
+/// Four candidates that the first two steps leave. Where buyers are left and where
+/// sellers are makes no difference: the request's has no sign.
+fn four_tied(program: &mut Program, random: &mut Random, position: u32) {
+    let prices = [0, 1, 2, 3].map(|away| step(position, away));
+    let orders = [
+        sell(prices[0], 100),
+        buy(prices[1], 7),
+        sell(prices[2], 7),
+        buy(prices[3], 100),
+    ];
+    for reference in references(&prices) {
+        let expected = price(nearest(reference, &prices), 100);
+        let name = format!("four tied, {prices:?}");
+        expect(program, random, &name, &orders, reference, expected);
+    }
+}
+
+/// Around these prices, half way between any two, and at both ends.
+fn references(prices: &[u32]) -> Vec<u32> {
+    let pairs = prices
+        .iter()
+        .flat_map(|&one| prices.iter().map(move |&other| one.midpoint(other)));
+    let around = pairs.chain([0, u32::MAX]).flat_map(|reference| {
         [
             reference.saturating_sub(1),
             reference,
             reference.saturating_add(1),
         ]
     });
-    around.collect()
+    let mut references: Vec<u32> = around.collect();
+    references.sort_unstable();
+    references.dedup();
+    references
 }
 
-/// Which of two prices is nearer to a reference; the higher if none is.
-fn nearer(reference: u32, low: u32, high: u32) -> u32 {
-    if reference.abs_diff(low) < reference.abs_diff(high) {
-        low
-    } else {
-        high
-    }
+/// The price nearest to a reference; of two the higher.
+fn nearest(reference: u32, prices: &[u32]) -> u32 {
+    let distance = |price: &u32| price.abs_diff(reference);
+    let least = prices.iter().map(distance).min();
+    let nearest = prices.iter().filter(|price| Some(distance(price)) == least);
+    *nearest.max().expect("there is a price")
 }
 
 /// Lists without a candidate that has volume, and with the least that has one.
@@ -230,15 +251,9 @@ fn no_price(program: &mut Program, random: &mut Random, position: u32) {
         ),
     ];
     for (name, orders, given, volume) in lists {
+        let expected = price(given, volume);
         for reference in [0, u32::MAX] {
-            expect(
-                program,
-                random,
-                name,
-                orders,
-                reference,
-                price(given, volume),
-            );
+            expect(program, random, name, orders, reference, expected);
         }
     }
 }
@@ -246,7 +261,7 @@ fn no_price(program: &mut Program, random: &mut Random, position: u32) {
 /// Two full lists in which no price comes twice: one where all prices cross and
 /// one where none do.
 fn different_prices(program: &mut Program, random: &mut Random, position: u32) {
-    let position = position.min(51_100 - 1_023);
+    let position = position.min(ladder::POSITIONS - 1_023);
     let prices: Vec<u32> = (0..1_024).map(|away| step(position, away)).collect();
     let (lower, upper) = prices.split_at(512);
     let list = |buyers: &[u32], sellers: &[u32]| {
@@ -259,17 +274,11 @@ fn different_prices(program: &mut Program, random: &mut Random, position: u32) {
     let [low, high] = [lower[511], upper[0]];
     let any = random.pick(&prices);
     for reference in [0, any, u32::MAX] {
-        let expected = price(nearer(reference, low, high), 51_200);
+        let expected = price(nearest(reference, &[low, high]), 51_200);
         let name = "1,024 prices, all crossing";
         expect(program, random, name, &crossing, reference, expected);
     }
     let name = "1,024 prices, none crossing";
-    expect(
-        program,
-        random,
-        name,
-        &list(lower, upper),
-        any,
-        Answer::None,
-    );
+    let apart = list(lower, upper);
+    expect(program, random, name, &apart, any, Answer::None);
 }
