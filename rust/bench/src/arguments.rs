@@ -1,5 +1,6 @@
 //! What the program is asked to do.
 
+use crate::auction::NAME;
 use crate::implementation::Implementation;
 use crate::mixture::Mixture;
 use crate::size::Size;
@@ -12,7 +13,8 @@ usage: bench [--repeats N] [--at CUSTOMERS,SECURITIES,ROWS] [--only NAME] [MIXTU
   --only NAME    time only gate, second or tuned, and compare nothing, so that it
                  handles each list N times and no more
   MIXTURE        order-heavy, pre-open, cancel-heavy, cancel-match, market-heavy
-                 or session; without one, all of them";
+                 or session, or auction, which has neither a state nor a tuned
+                 implementation; without one, all of them";
 
 /// Odd, so that there is a median.
 const REPEATS: usize = 51;
@@ -25,6 +27,7 @@ pub struct Arguments {
     pub implementations: Vec<Implementation>,
     at: Option<Size>,
     mixtures: Vec<Mixture>,
+    auction: bool,
 }
 
 impl Arguments {
@@ -34,6 +37,7 @@ impl Arguments {
             implementations: Implementation::ALL.to_vec(),
             at: None,
             mixtures: Vec::new(),
+            auction: false,
         };
         let mut only = None;
         let mut words = words.into_iter();
@@ -45,6 +49,7 @@ impl Arguments {
                 "--only" if only.is_some() => return Err(String::from("--only is given twice")),
                 "--only" => only = Some(implementation(&value()?)?),
                 _ if word.starts_with('-') => return Err(format!("unknown argument {word:?}")),
+                NAME => arguments.auction = true,
                 _ => arguments.mixtures.push(mixture(&word)?),
             }
         }
@@ -52,6 +57,7 @@ impl Arguments {
             arguments.implementations = vec![only];
         }
         arguments.check_sizes()?;
+        arguments.check_auction()?;
         Ok(arguments)
     }
 
@@ -65,12 +71,38 @@ impl Arguments {
         }
     }
 
+    fn check_auction(&self) -> Result<(), String> {
+        if self.auction && self.at.is_some() {
+            return Err(format!("{NAME} has no state that --at could be for"));
+        }
+        match self.implementations[..] {
+            [alone] if self.auction && !Implementation::AUCTION.contains(&alone) => {
+                Err(format!("{} has no {NAME}", alone.name()))
+            }
+            _ => Ok(()),
+        }
+    }
+
+    fn is_everything_asked(&self) -> bool {
+        self.mixtures.is_empty() && !self.auction
+    }
+
     /// The mixtures asked for, in the order of the table.
     pub fn mixtures(&self) -> impl Iterator<Item = Mixture> {
         let is_asked = |mixture: &Mixture| self.mixtures.contains(mixture);
         Mixture::ALL
             .into_iter()
-            .filter(move |mixture| self.mixtures.is_empty() || is_asked(mixture))
+            .filter(move |mixture| self.is_everything_asked() || is_asked(mixture))
+    }
+
+    /// Those of which the auction is asked for, the gate first.
+    pub fn auction(&self) -> Vec<Implementation> {
+        if !self.auction && (!self.is_everything_asked() || self.at.is_some()) {
+            return Vec::new();
+        }
+        let mut implementations = self.implementations.clone();
+        implementations.retain(|implementation| Implementation::AUCTION.contains(implementation));
+        implementations
     }
 
     /// The sizes at which a mixture is asked for.
@@ -115,6 +147,24 @@ mod tests {
         assert_eq!(arguments.implementations, Implementation::ALL);
         assert!(arguments.mixtures().eq(Mixture::ALL));
         assert_eq!(arguments.sizes(Mixture::Orders), Mixture::Orders.sizes());
+        assert_eq!(arguments.auction(), Implementation::AUCTION);
+    }
+
+    #[test]
+    fn only_the_auction() {
+        let arguments = parse("auction --repeats 3").unwrap();
+        assert_eq!(arguments.mixtures().count(), 0);
+        assert_eq!(arguments.auction(), Implementation::AUCTION);
+        let arguments = parse("session auction --only second").unwrap();
+        assert!(arguments.mixtures().eq([Mixture::Sessions]));
+        assert_eq!(arguments.auction(), [Implementation::Second]);
+    }
+
+    #[test]
+    fn no_auction() {
+        for line in ["session", "--at 16,64,31", "--only tuned"] {
+            assert_eq!(parse(line).unwrap().auction(), [], "{line}");
+        }
     }
 
     #[test]
@@ -156,6 +206,7 @@ mod tests {
         for mixture in Mixture::ALL {
             assert!(USAGE.contains(mixture.name()), "{mixture:?}");
         }
+        assert!(USAGE.contains(NAME));
         for implementation in Implementation::ALL {
             assert!(USAGE.contains(implementation.name()), "{implementation:?}");
         }
@@ -188,6 +239,11 @@ mod tests {
             ("--only gate --only tuned", "--only is given twice"),
             ("--only gate --only gate", "--only is given twice"),
             ("--at", "--at needs a value"),
+            (
+                "auction --at 16,64,10",
+                "auction has no state that --at could be for",
+            ),
+            ("auction --only tuned", "tuned has no auction"),
         ];
         for (line, message) in expected {
             assert_eq!(parse(line).unwrap_err(), message);

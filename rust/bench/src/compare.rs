@@ -15,6 +15,16 @@ pub struct Difference {
     values: [String; 2],
 }
 
+impl Difference {
+    pub fn new(other: Implementation, what: String, values: [String; 2]) -> Self {
+        Difference {
+            other,
+            what,
+            values,
+        }
+    }
+}
+
 impl fmt::Display for Difference {
     fn fmt(&self, f: &mut fmt::Formatter<'_>) -> fmt::Result {
         let Difference {
@@ -73,19 +83,11 @@ impl Outcome {
     ) -> Result<(), Difference> {
         if let Some((event, values)) = first_unlike(&self.answers, &outcome.answers) {
             let what = format!("answer to event {event} of part {part}");
-            return Err(Difference {
-                other,
-                what,
-                values,
-            });
+            return Err(Difference::new(other, what, values));
         }
         if let Some((place, values)) = first_unlike(&self.words, &outcome.words) {
             let what = format!("word {place} after part {part}");
-            return Err(Difference {
-                other,
-                what,
-                values,
-            });
+            return Err(Difference::new(other, what, values));
         }
         Ok(())
     }
@@ -93,7 +95,10 @@ impl Outcome {
 
 /// The first place where two lists of one length are not alike, and what the
 /// two have there.
-fn first_unlike<T: PartialEq + ToString>(one: &[T], other: &[T]) -> Option<(usize, [String; 2])> {
+pub fn first_unlike<T: PartialEq + ToString>(
+    one: &[T],
+    other: &[T],
+) -> Option<(usize, [String; 2])> {
     let place = one.iter().zip(other).position(|(a, b)| a != b)?;
     Some((place, [one[place].to_string(), other[place].to_string()]))
 }

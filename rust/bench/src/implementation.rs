@@ -27,6 +27,9 @@ impl Implementation {
         Implementation::Tuned,
     ];
 
+    /// Those that have the auction.
+    pub const AUCTION: [Implementation; 2] = [Implementation::Gate, Implementation::Second];
+
     pub fn name(self) -> &'static str {
         match self {
             Implementation::Gate => "gate",

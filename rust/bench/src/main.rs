@@ -2,6 +2,7 @@
 //! and prints one table. It fails where they differ on what is timed.
 
 mod arguments;
+mod auction;
 mod compare;
 mod implementation;
 mod list;
@@ -15,6 +16,7 @@ use std::env;
 use std::process::ExitCode;
 
 use arguments::{Arguments, USAGE};
+use auction::Books;
 use compare::compare;
 use implementation::Implementation;
 use measure::measure;
@@ -50,15 +52,16 @@ fn main() -> ExitCode {
 }
 
 fn print(arguments: &Arguments) -> Result<(), String> {
-    let table = Table {
-        implementations: arguments.implementations.clone(),
-    };
     let compared = compared(&arguments.implementations);
-    println!("{compared}{MEASURED}Repeats: {}\n", arguments.repeats);
-    println!("{}", table.heading());
-    arguments
-        .mixtures()
-        .try_for_each(|mixture| print_mixture(&table, arguments, mixture))
+    println!("{compared}{MEASURED}Repeats: {}", arguments.repeats);
+    if arguments.mixtures().count() > 0 {
+        print_mixtures(arguments)?;
+    }
+    let implementations = arguments.auction();
+    if !implementations.is_empty() {
+        print_auction(arguments, implementations)?;
+    }
+    Ok(())
 }
 
 /// What the first lines say of those that are timed.
@@ -67,6 +70,16 @@ fn compared(implementations: &[Implementation]) -> String {
         [alone] => format!("Only {} is timed, and nothing is compared.\n", alone.name()),
         _ => String::from(SEVERAL),
     }
+}
+
+fn print_mixtures(arguments: &Arguments) -> Result<(), String> {
+    let table = Table {
+        implementations: arguments.implementations.clone(),
+    };
+    println!("\n{}", table.heading());
+    arguments
+        .mixtures()
+        .try_for_each(|mixture| print_mixture(&table, arguments, mixture))
 }
 
 fn print_mixture(table: &Table, arguments: &Arguments, mixture: Mixture) -> Result<(), String> {
@@ -80,8 +93,33 @@ fn print_mixture(table: &Table, arguments: &Arguments, mixture: Mixture) -> Resu
         lines.push(times);
     }
     if lines.len() > 1 {
-        println!("{}", table.mean(mixture, &lines));
+        println!("{}", table.mean(mixture.name(), &lines));
     }
+    Ok(())
+}
+
+fn print_auction(
+    arguments: &Arguments,
+    implementations: Vec<Implementation>,
+) -> Result<(), String> {
+    let table = Table { implementations };
+    println!("\n{}", table.auction_heading());
+    let mut lines = Vec::new();
+    for books in Books::all() {
+        let (prices, length) = (books.prices, books.length);
+        books
+            .compare(&table.implementations)
+            .map_err(|difference| {
+                format!(
+                    "{} of {length} orders, {prices} prices: {difference}",
+                    auction::NAME
+                )
+            })?;
+        let times = books.measure(&table.implementations, arguments.repeats);
+        println!("{}", table.auction_line(&books, &times));
+        lines.push(times);
+    }
+    println!("{}", table.mean(auction::NAME, &lines));
     Ok(())
 }
 
@@ -95,5 +133,6 @@ mod tests {
             let name = format!("\n  {} ", mixture.name());
             assert!(MEASURED.contains(&name), "{mixture:?}");
         }
+        assert!(MEASURED.contains(&format!("\n  {} ", auction::NAME)));
     }
 }

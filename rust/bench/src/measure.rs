@@ -5,24 +5,34 @@ use std::time::Duration;
 use crate::implementation::Implementation;
 use crate::list::List;
 
-/// The implementations take turns, so that what else the machine does hits all
-/// of them; who is first changes, so that nothing regular hits one of them
-/// alone.
 pub fn measure(list: &List, implementations: &[Implementation], repeats: usize) -> Vec<f64> {
     let count = implementations.len();
     let mut words = vec![list.start.clone(); count];
+    let medians = medians(count, repeats, |place| {
+        implementations[place].time(list, &mut words[place])
+    });
+    let times = medians.into_iter();
+    times
+        .map(|time| time.as_nanos() as f64 / list.len() as f64)
+        .collect()
+}
+
+/// The implementations take turns, so that what else the machine does hits all
+/// of them; who is first changes, so that nothing regular hits one of them
+/// alone.
+pub fn medians(
+    count: usize,
+    repeats: usize,
+    mut time: impl FnMut(usize) -> Duration,
+) -> Vec<Duration> {
     let mut times = vec![Vec::with_capacity(repeats); count];
     for repeat in 0..repeats {
         for turn in 0..count {
             let place = (repeat + turn) % count;
-            let time = implementations[place].time(list, &mut words[place]);
-            times[place].push(time);
+            times[place].push(time(place));
         }
     }
-    let medians = times.into_iter().map(median);
-    medians
-        .map(|time| time.as_nanos() as f64 / list.len() as f64)
-        .collect()
+    times.into_iter().map(median).collect()
 }
 
 /// Of an even number the longer of the two in the middle.

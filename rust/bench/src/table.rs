@@ -1,5 +1,6 @@
 //! The lines of the table. Each is printed as soon as it is measured.
 
+use crate::auction::{Books, NAME};
 use crate::implementation::Implementation;
 use crate::mixture::Mixture;
 use crate::size::Size;
@@ -11,17 +12,28 @@ pub struct Table {
 
 impl Table {
     pub fn heading(&self) -> String {
-        let mut line = format!(
+        let line = format!(
             "{:<13}{:>10}{:>11}{:>5}{:>7}",
             "mixture", "customers", "securities", "rows", "events"
         );
+        line + &self.names()
+    }
+
+    pub fn auction_heading(&self) -> String {
+        let line = format!("{NAME:<13}{:>10}{:>11}{:>12}", "prices", "orders", "calls");
+        line + &self.names()
+    }
+
+    /// Of the columns with the times and how they compare.
+    fn names(&self) -> String {
+        let mut names = String::new();
         for implementation in &self.implementations {
-            line += &format!("{:>11}", format!("{} ns", implementation.name()));
+            names += &format!("{:>11}", format!("{} ns", implementation.name()));
         }
         for other in &self.implementations[1..] {
-            line += &format!("{:>12}", format!("gate/{}", other.name()));
+            names += &format!("{:>12}", format!("gate/{}", other.name()));
         }
-        line
+        names
     }
 
     pub fn line(&self, mixture: Mixture, size: Size, events: usize, times: &[f64]) -> String {
@@ -34,13 +46,18 @@ impl Table {
         format!("{name:<13}{customers:>10}{securities:>11}{rows:>5}{events:>7}") + &columns(times)
     }
 
-    /// Over all lines of a mixture.
-    pub fn mean(&self, mixture: Mixture, lines: &[Vec<f64>]) -> String {
+    pub fn auction_line(&self, books: &Books, times: &[f64]) -> String {
+        let (prices, orders, calls) = (books.prices, books.length, books.len());
+        format!("{NAME:<13}{prices:>10}{orders:>11}{calls:>12}") + &columns(times)
+    }
+
+    /// Over all lines of a mixture or of the auction.
+    pub fn mean(&self, name: &str, lines: &[Vec<f64>]) -> String {
         let means: Vec<f64> = (0..self.implementations.len())
             .map(|place| geometric_mean(lines.iter().map(|times| times[place])))
             .collect();
         let what = format!("geometric mean of {} lines", lines.len());
-        format!("{:<13}{what:>33}", mixture.name()) + &columns(&means)
+        format!("{name:<13}{what:>33}") + &columns(&means)
     }
 }
 
@@ -75,7 +92,7 @@ mod tests {
                 table.heading(),
                 table.line(Mixture::Orders, size, 2_003, &lines[0]),
                 table.line(Mixture::Orders, size, 2_003, &lines[1]),
-                table.mean(Mixture::Orders, &lines),
+                table.mean("order-heavy", &lines),
             ],
             [
                 "mixture       customers securities rows events    gate ns  second ns   tuned ns gate/second  gate/tuned",
@@ -100,6 +117,28 @@ mod tests {
             [
                 "mixture       customers securities rows events   tuned ns",
                 "session               1          1    0     20       12.3",
+            ]
+        );
+    }
+    #[test]
+    fn the_auctions_columns_stand_below_the_others() {
+        let table = Table {
+            implementations: Implementation::AUCTION.to_vec(),
+        };
+        let books = Books::all();
+        let lines = [vec![100.0, 200.0], vec![400.0, 200.0]];
+        assert_eq!(
+            [
+                table.auction_heading(),
+                table.auction_line(&books[2], &lines[0]),
+                table.auction_line(&books[3], &lines[1]),
+                table.mean(NAME, &lines),
+            ],
+            [
+                "auction          prices     orders       calls    gate ns  second ns gate/second",
+                "auction          shared       1024           8      100.0      200.0        0.50",
+                "auction       different         16         512      400.0      200.0        2.00",
+                "auction              geometric mean of 2 lines      200.0      200.0        1.00",
             ]
         );
     }

@@ -30,6 +30,8 @@ fn bad_arguments_fail_with_the_usage() {
         "--only it",
         "--only",
         "--only gate --only gate",
+        "auction --at 16,64,10",
+        "auction --only tuned",
     ] {
         let output = bench(line);
         assert_eq!(output.status.code(), Some(1), "{line}");
@@ -79,4 +81,24 @@ fn one_implementation() {
         // Without rows there is no cancel-match.
         assert_eq!(table.len(), 1 + 5);
     }
+}
+
+#[test]
+fn only_the_auction() {
+    let output = bench("auction --repeats 1");
+    assert!(output.status.success());
+    let text = String::from_utf8(output.stdout).unwrap();
+    assert!(!text.contains("\nmixture "), "{text}");
+    let table = text
+        .lines()
+        .skip_while(|line| !line.starts_with("auction "));
+    let columns: Vec<Vec<&str>> = table
+        .map(|line| line.split_whitespace().collect())
+        .collect();
+    // Two sorts of prices at three lengths, and the mean.
+    assert_eq!(columns.len(), 1 + 6 + 1);
+    assert_eq!(columns[1][..4], ["auction", "shared", "16", "512"]);
+    assert_eq!(columns[6][..4], ["auction", "different", "1024", "8"]);
+    // Two times and a ratio.
+    assert_eq!(columns[1].len(), 7);
 }

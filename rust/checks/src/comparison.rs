@@ -30,23 +30,23 @@ pub fn is_refused(number: u32) -> bool {
 const GUARD: u32 = 0x5a5a_a5a5;
 const GUARD_WORDS: usize = 64;
 
-/// Words to lend, with guard words around them.
+/// Words to lend, with guard words around them. The auction's are of 64 bits.
 #[derive(Clone, Debug, Default)]
-pub struct Lent(Vec<u32>);
+pub struct Lent<W = u32>(Vec<W>);
 
-impl Lent {
-    pub fn set(&mut self, words: &[u32]) {
+impl<W: Copy + PartialEq + From<u32>> Lent<W> {
+    pub fn set(&mut self, words: &[W]) {
         self.0.clear();
-        self.0.resize(GUARD_WORDS, GUARD);
-        self.0.extend(words);
-        self.0.resize(self.0.len() + GUARD_WORDS, GUARD);
+        self.0.resize(GUARD_WORDS, GUARD.into());
+        self.0.extend_from_slice(words);
+        self.0.resize(self.0.len() + GUARD_WORDS, GUARD.into());
     }
 
-    pub fn words(&self) -> &[u32] {
+    pub fn words(&self) -> &[W] {
         &self.0[GUARD_WORDS..self.0.len() - GUARD_WORDS]
     }
 
-    pub fn words_mut(&mut self) -> &mut [u32] {
+    pub fn words_mut(&mut self) -> &mut [W] {
         let end = self.0.len() - GUARD_WORDS;
         &mut self.0[GUARD_WORDS..end]
     }
@@ -54,7 +54,7 @@ impl Lent {
     pub fn is_guard_whole(&self) -> bool {
         let (before, rest) = self.0.split_at(GUARD_WORDS);
         let after = &rest[rest.len() - GUARD_WORDS..];
-        before.iter().chain(after).all(|&word| word == GUARD)
+        before.iter().chain(after).all(|&word| word == GUARD.into())
     }
 }
 
@@ -124,7 +124,7 @@ pub enum Difference {
 }
 
 /// The first place where two lists of one length are not alike.
-pub fn first_unlike(one: &[u32], other: &[u32]) -> Option<usize> {
+pub fn first_unlike<W: PartialEq>(one: &[W], other: &[W]) -> Option<usize> {
     // Lists are compared whole first: that is fast, and they mostly agree.
     (one != other).then(|| {
         let pairs = one.iter().zip(other);

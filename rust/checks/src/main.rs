@@ -2,6 +2,11 @@
 //! one: answers and every word.
 
 mod arguments;
+mod auction_books;
+mod auction_comparison;
+mod auction_lists;
+mod auction_places;
+mod auctions;
 mod bases;
 mod comparison;
 mod counters;
@@ -48,7 +53,7 @@ use program::Program;
 type Group = (&'static str, fn(&mut Program));
 
 /// Cases that are the same in every run of one seed.
-const FIXED: [Group; 15] = [
+const FIXED: [Group; 16] = [
     ("edges", |program| {
         script::run(program, "edges.txt", include_str!("../cases/edges.txt"))
     }),
@@ -89,19 +94,22 @@ const FIXED: [Group; 15] = [
     ("lengths", lengths::fixed),
     ("damage", damage::run),
     ("ladder", ladder::run),
+    ("auctions", auctions::run),
 ];
 
 /// Cases that each round draws anew.
-const RANDOM: [Group; 5] = [
+const RANDOM: [Group; 6] = [
     ("histories", histories::run),
     ("customers", customers::run),
     ("runs", runs::run),
     ("damaged-histories", damaged_histories::run),
     ("random-bytes", lengths::random),
+    ("auction-books", auction_books::run),
 ];
 
-/// From so many rounds on, every answer must have come in the histories. So many
-/// are done however slow the machine is and however long the fixed cases took.
+/// From so many rounds on, every answer must have come in the histories, and every
+/// one of the auction in its books. So many are done however slow the machine is
+/// and however long the fixed cases took.
 const ENOUGH_ROUNDS: u64 = 20;
 
 fn main() -> ExitCode {

@@ -4,6 +4,8 @@ use std::collections::HashMap;
 use std::fmt;
 use std::time::{Duration, Instant};
 
+use crate::auction_comparison::{self, Call, Outcome};
+use crate::auction_places::{AuctionTally, auction_place, auction_table};
 use crate::comparison::{Comparison, Difference};
 use crate::places::place;
 use crate::random::Random;
@@ -34,6 +36,9 @@ pub struct Program {
     all: Tally,
     histories: Tally,
     counts_history: bool,
+    /// Of the fixed and of the random calls.
+    auctions: AuctionTally,
+    auction_books: AuctionTally,
     started: Instant,
     told: Instant,
 }
@@ -53,6 +58,8 @@ impl Program {
             all: Tally::new(),
             histories: Tally::new(),
             counts_history: false,
+            auctions: AuctionTally::default(),
+            auction_books: AuctionTally::default(),
             started: Instant::now(),
             told: Instant::now(),
         }
@@ -134,6 +141,38 @@ impl Program {
             }
         }
         self.pass();
+    }
+
+    /// One call of the auction, by the library and by the second implementation.
+    /// `None` where they part, or where the group is given up.
+    pub fn auction(&mut self, name: fmt::Arguments, call: &Call) -> Option<Outcome> {
+        if self.is_given_up(self.group) {
+            return None;
+        }
+        let Ok(outcome) = auction_comparison::compare(call) else {
+            self.fail_auction(name, call);
+            return None;
+        };
+        let tally = match self.round {
+            None => &mut self.auctions,
+            Some(_) => &mut self.auction_books,
+        };
+        tally.add(auction_place(call, &outcome));
+        self.pass();
+        Some(outcome)
+    }
+
+    fn fail_auction(&mut self, name: fmt::Arguments, call: &Call) {
+        let with = |orders: &[_]| Call {
+            orders: orders.to_vec(),
+            ..call.clone()
+        };
+        let short = with(&shrink(&call.orders, |orders| {
+            auction_comparison::compare(&with(orders)).is_err()
+        }));
+        let difference = auction_comparison::compare(&short).err();
+        let difference = difference.unwrap_or("a second time they do not part".into());
+        self.fail(name, &(short.describe() + &difference));
     }
 
     /// Anything else that must hold.
@@ -226,24 +265,32 @@ impl Program {
 
     /// Says what each group had and how often each answer came. Where all groups
     /// ran, it is a failure if one had no case, or an answer never came that
-    /// should have, or came that should not.
-    pub fn finish(&mut self, is_whole: bool, enough_histories: bool) {
+    /// should have, or came that should not. Of the auction's answers it is one
+    /// wherever their group ran.
+    pub fn finish(&mut self, is_whole: bool, enough_rounds: bool) {
         print!("{}", self.shares.table());
         print!("{}", tally::table(&self.all, &self.histories));
-        if !is_whole || self.failed > 0 {
+        print!("{}", auction_table(&self.auctions, &self.auction_books));
+        if self.failed > 0 {
             return;
         }
-        let mut gaps = self.all.gaps();
-        let idle = self.shares.idle().into_iter();
-        gaps.extend(idle.map(|group| format!("no case of {group} ran")));
-        if enough_histories {
+        let mut gaps = self.auctions.gaps("auctions");
+        if enough_rounds {
+            gaps.extend(self.auction_books.gaps("auction-books"));
+        }
+        if is_whole {
+            gaps.extend(self.all.gaps());
+            let idle = self.shares.idle().into_iter();
+            gaps.extend(idle.map(|group| format!("no case of {group} ran")));
+        }
+        if is_whole && enough_rounds {
             gaps.extend(self.histories.gaps_from_fresh());
         }
-        if gaps.is_empty() {
-            self.passed += 1;
-        } else {
+        if !gaps.is_empty() {
             self.failed += 1;
             eprintln!("FAILED answers (seed {}):\n{}", self.seed, gaps.join("\n"));
+        } else if is_whole {
+            self.passed += 1;
         }
     }
 }

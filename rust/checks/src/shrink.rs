@@ -1,4 +1,4 @@
-//! Makes the list of events of a failed case short enough to read.
+//! Makes the list of events or orders of a failed case short enough to read.
 
 use std::time::{Duration, Instant};
 
@@ -7,9 +7,9 @@ use std::time::{Duration, Instant};
 const LONGEST: Duration = Duration::from_secs(20);
 
 /// A shorter list for which `fails` still holds; it holds for the given one.
-pub fn shrink(events: &[Vec<u8>], mut fails: impl FnMut(&[Vec<u8>]) -> bool) -> Vec<Vec<u8>> {
+pub fn shrink<T: Clone>(list: &[T], mut fails: impl FnMut(&[T]) -> bool) -> Vec<T> {
     let started = Instant::now();
-    let mut kept = events.to_vec();
+    let mut kept = list.to_vec();
     let mut part = kept.len().div_ceil(2);
     while part > 0 {
         let mut start = 0;

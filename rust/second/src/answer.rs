@@ -26,7 +26,8 @@ pub enum Answer {
     Refused(u8),
 }
 
-/// The conditions under which an event is turned back, with their numbers.
+/// The conditions under which an event or an auction's list is turned back, with
+/// their numbers.
 #[derive(Clone, Copy, Debug, PartialEq, Eq)]
 pub enum Refusal {
     State = 1,
@@ -42,6 +43,8 @@ pub enum Refusal {
     MatchVolume = 11,
     DeskFull = 12,
     Figures = 13,
+    Lists = 14,
+    ListedOrder = 15,
 }
 
 impl From<Refusal> for Answer {

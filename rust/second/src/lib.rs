@@ -5,6 +5,7 @@
 #![forbid(unsafe_code)]
 
 pub mod answer;
+pub mod auction;
 pub mod codes;
 pub mod day;
 pub mod encode;
