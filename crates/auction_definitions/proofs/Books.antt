@@ -53,5 +53,6 @@ atoBothSides = buying 0 300 ∷ selling 0 500 ∷ buying 900 100 ∷ []
 abbrev pub endingIn : AuctionOrder → List AuctionOrder
 endingIn o = evenBook ++ (o ∷ [])
 
+-- ATO orders to buy, the largest that may be entered
 abbrev pub many : ℕ → List AuctionOrder
-many n = replicate n (buying 1_000 20_000_000)
+many n = replicate n (buying 0 20_000_000)

@@ -61,6 +61,7 @@ cases =
     ∷ record { orders = evenBook; reference = 0; buyers = 1_024; sellers = 1_023; right = Refused 14 }
     ∷ record { orders = evenBook; reference = 0; buyers = 1_025; sellers = 1_025; right = Price 1_000 100 }
     ∷ record { orders = buying 1_005 100 ∷ []; reference = 0; buyers = 0; sellers = 1_024; right = Refused 14 }
+    ∷ of (many 1_024) 0 None
     ∷ of (many 1_025) 0 (Refused 14)
     ∷ []
 

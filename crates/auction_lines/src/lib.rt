@@ -65,6 +65,7 @@ fn added(counted: bool, sum: u64, volume: u32) -> u64
     if counted { sum + (volume as u64) } else { sum }
 }
 
+// The side is asked by a branch, and the price without one: the fastest of the forms that were measured (docs/BENCHMARKS.md).
 pub fn with_order(line: Line, order: AuctionOrder) -> Line
     requires { ⌜ (line .buyers < 2 ^ 63) × (line .sellers < 2 ^ 63) ⌝ }
     ensures { λ r. ⌜ r ≡ withOrder line order ⌝ }
@@ -72,12 +73,19 @@ pub fn with_order(line: Line, order: AuctionOrder) -> Line
     let price = line.price;
     let limit = order.price;
     let candidate = price != 0;
-    let buys = (order.side == BUY) & ((limit == 0) | (price <= limit));
-    let sells = (order.side == SELL) & ((limit == 0) | (limit <= price));
+    if order.side == BUY {
+        let bought = candidate & ((limit == 0) | (price <= limit));
+        return Line {
+            price,
+            buyers: added(bought, line.buyers, order.volume),
+            sellers: line.sellers,
+        };
+    }
+    let sold = candidate & ((order.side == SELL) & ((limit == 0) | (limit <= price)));
     Line {
         price,
-        buyers: added(candidate & buys, line.buyers, order.volume),
-        sellers: added(candidate & sells, line.sellers, order.volume),
+        buyers: line.buyers,
+        sellers: added(sold, line.sellers, order.volume),
     }
 }
 
