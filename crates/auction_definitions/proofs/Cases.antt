@@ -94,9 +94,10 @@ pub sellers-003 : take 6 (sellersAfter book003 (replicate 1_024 7) (replicate 1_
 unfolding refusal firstMet any badOrder legal bandOfPrice lastBand sumsIn placeLine lineAt sumOf
 sellers-003 = refl
 
-pub left-003 : take 2 (buyersAfter (buying 1_005 100 ∷ []) (replicate 1_024 7) (replicate 1_024 7)) ≡ 7 ∷ 7 ∷ []
+-- and a refusal leaves them equal
+pub left-equal : take 2 (buyersAfter (buying 1_005 100 ∷ []) (replicate 1_024 7) (replicate 1_024 7)) ≡ 7 ∷ 7 ∷ []
 unfolding refusal firstMet any badOrder legal bandOfPrice lastBand sumsIn placeLine lineAt sumOf
-left-003 = refl
+left-equal = refl
 
 -- each answer's numbers
 pub numbers : map auctionNumbers (Price 10_200 3_500 ∷ None ∷ Refused 14 ∷ Refused 15 ∷ [])
