@@ -261,10 +261,10 @@ enum guvontsira_row_word {
  * Answers to an event. 0 is ok. A refusal is the number of the condition that was
  * found first, below 100. A verdict on an order is 100 for accept, 100 and the
  * warning's number, or 200 and the place of the rejecting rule's letter in the
- * alphabet (P is the 16th). So an order may go out if its answer is 100 to 199. An order that
- * meets several rules gets the first in this order: S V C Q W P, warn 30, warn 10.
- * A price rule whose reference is absent does not apply. docs/RULES.md has the
- * rules with their edges.
+ * alphabet (P is the 16th). So an order may go out if its answer is 100 to 199. An
+ * order that meets several rules gets the first in this order: S V C Q W P, warn
+ * 30, warn 10. A price rule whose reference is absent does not apply. docs/RULES.md
+ * has the rules with their edges.
  */
 enum guvontsira_answer {
     /* A market event, a cancel, a match or a rest was carried out. */
