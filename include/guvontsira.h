@@ -56,7 +56,7 @@ extern "C" {
 #define GUVONTSIRA_MAX_PRICE 10000000  /* satang: 100,000.00 baht */
 #define GUVONTSIRA_MAX_POSITION 51100  /* of GUVONTSIRA_MAX_PRICE */
 #define GUVONTSIRA_MAX_VOLUME 20000000 /* shares in one order */
-#define GUVONTSIRA_MAX_AUCTION_ORDERS 1024 /* in a list; each scratch list has as many places */
+#define GUVONTSIRA_MAX_AUCTION_ORDERS 1024 /* in a list; each scratch list has as many places, or more */
 #define GUVONTSIRA_STACK_BYTES 16384
 
 /*
@@ -431,8 +431,8 @@ uint32_t guvontsira_ceiling(const uint32_t *words, size_t word_count, uint32_t s
  * The two scratch lists have GUVONTSIRA_MAX_AUCTION_ORDERS places or more, whatever
  * they hold. Afterwards buyers[i] and sellers[i] are the two sums at the price of
  * orders[i], and 0 where that is ATO or ATC; places past the last order are
- * untouched, and so are all after a refusal. Each limit is held to every order: the
- * time grows with the square of the count.
+ * untouched, and so are all after a refusal. Each order's place is held to every
+ * order: the time grows with the square of the count.
  */
 struct guvontsira_auction_answer
 guvontsira_auction(const struct guvontsira_auction_order *orders, size_t order_count,

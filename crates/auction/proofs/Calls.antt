@@ -34,8 +34,8 @@ use denote.Triple.Clauses.{ensured, lasts}
 use Rattle.auction_definitions.specs.declared.AuctionAnswer.{AuctionAnswer}
 use Rattle.auction_definitions.specs.declared.AuctionOrder.{AuctionOrder}
 use Rattle.auction_definitions.specs.declared.Line.{Line}
-use Rattle.auction_definitions.specs.Auction.{badOrder, listsFit}
-use Rattle.auction_lines.specs.Lines.{answerOf, betterOf, emptyLine, withOrder}
+use Rattle.auction_definitions.specs.Auction.{badOrder, emptyLine, listsFit}
+use Rattle.auction_lines.specs.Lines.{answerOf, betterOf, withOrder}
 use Rattle.auction_definitions.proofs.AuctionAnswer as N
 use Rattle.auction_definitions.proofs.AuctionAnswer.Laws as N′
 use Rattle.auction_definitions.proofs.AuctionOrder as O

@@ -4,7 +4,6 @@ use mathlib.Core.Bool.{Bool, true, false, cond}
 use mathlib.Core.List.{List, [], _∷_, map}
 use mathlib.Core.Path.{_≡_, refl, sym, _∙_, ap}
 use Prim.Native.Nat.{ℕ}
-use lib.Dec.{ltb}
 use borrow.Author.Tests.{ltb-false, ltb-true}
 use native.Mathlib.Omega.{arith}
 use Rattle.definitions.specs.Lists.{keep}
@@ -13,13 +12,10 @@ use Rattle.auction_definitions.specs.declared.AuctionOrder.{AuctionOrder}
 use Rattle.auction_definitions.specs.declared.Line.{Line}
 use Rattle.auction_definitions.specs.declared.AuctionAnswer.{AuctionAnswer}
 use Rattle.auction_definitions.specs.declared.AuctionAnswer.the-variants.{Price}
-use Rattle.auction_definitions.specs.Auction.{beats, candidates, given, isLimit, lineAt, placeLine, traded, unbeaten, volumeOf}
+use Rattle.auction_definitions.specs.Auction.{beats, candidates, emptyLine, given, hasVolume, isLimit, lineAt, placeLine, traded, unbeaten, volumeOf}
 use Rattle.auction_definitions.proofs.StrictOrder.{ahead-of, behind}
-use Rattle.auction_lines.specs.Lines.{answerOf, betterOf, emptyLine}
+use Rattle.auction_lines.specs.Lines.{answerOf, betterOf}
 use Rattle.auction.specs.Turns.{bestAfter}
-
-abbrev hasVolume : Line → Bool
-hasVolume l = ltb 0 (volumeOf l)
 
 module _ (reference : ℕ) (orders : List AuctionOrder) where
   -- the lines with volume of some of the orders
@@ -33,8 +29,8 @@ module _ (reference : ℕ) (orders : List AuctionOrder) where
     where
       go : (t : Bool)
           → keep hasVolume (map (lineAt orders) (map (λ o. o .price) (cond t (o ∷ keep isLimit os) (keep isLimit os))))
-          ≡ cond (hasVolume (cond t (lineAt orders (o .price)) (record { price = 0; buyers = 0; sellers = 0 })))
-          (cond t (lineAt orders (o .price)) (record { price = 0; buyers = 0; sellers = 0 }) ∷ keep hasVolume (map (lineAt orders) (map (λ o. o .price) (keep isLimit os))))
+          ≡ cond (hasVolume (cond t (lineAt orders (o .price)) (emptyLine 0)))
+          (cond t (lineAt orders (o .price)) (emptyLine 0) ∷ keep hasVolume (map (lineAt orders) (map (λ o. o .price) (keep isLimit os))))
           (keep hasVolume (map (lineAt orders) (map (λ o. o .price) (keep isLimit os))))
       go true = refl
       go false = refl

@@ -16,9 +16,10 @@ use Rattle.auction_definitions.specs.declared.AuctionOrder.{AuctionOrder}
 use Rattle.auction_definitions.specs.declared.Line.{Line}
 use Rattle.auction_definitions.specs.declared.AuctionAnswer.{AuctionAnswer}
 use Rattle.auction_definitions.specs.declared.AuctionAnswer.the-variants.{Refused}
-use Rattle.auction_definitions.specs.Auction.{auction, badOrder, buyersAfter, buysAt, isLimit, lineAt, listsFit, placeLine, refusal, sellersAfter, sellsAt, sumOf, sumsIn}
-use Rattle.auction_lines.specs.Lines.{addedAt, answerOf, betterOf, emptyLine, withOrder}
-use Rattle.auction.specs.Turns.{bestAfter, filledTo, lineAfter, noOrder}
+use Rattle.auction_definitions.specs.Auction.{auction, badOrder, buyersAfter, buysAt, emptyLine, lineAt, listsFit, placeLine, refusal, sellersAfter, sellsAt, sumOf, sumsIn}
+use Rattle.auction_definitions.proofs.Promises.{noOrder}
+use Rattle.auction_lines.specs.Lines.{answerOf, betterOf, withOrder}
+use Rattle.auction.specs.Turns.{bestAfter, filledTo, lineAfter}
 use Rattle.auction.proofs.Chosen.{chosen}
 
 -- before the turn of place i: nothing bad was met in an earlier turn, the best line is that of the places passed, and so are the scratch lists

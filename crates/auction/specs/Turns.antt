@@ -7,10 +7,6 @@ use Rattle.auction_definitions.specs.declared.Line.{Line}
 use Rattle.auction_definitions.specs.Auction.{placeLine}
 use Rattle.auction_lines.specs.Lines.{betterOf, withOrder}
 
--- read past the list's end
-abbrev pub noOrder : AuctionOrder
-noOrder = record { side = 0; price = 0; volume = 0 }
-
 -- a line with the orders added, one after another
 unfoldable pub lineAfter : Line → List AuctionOrder → Line
 lineAfter l [] = l

@@ -5,7 +5,7 @@ ghost use Rattle.auction_definitions.specs.Auction.{auction, buyersAfter, selle
 use auction_definitions::AuctionAnswer;
 use auction_definitions::AuctionOrder;
 
-// The first candidate's turn passes every order, and the first store comes after it: a bad order leaves both scratch lists as they were.
+// The first place's turn passes every order, and the first store comes after it: a bad order leaves both scratch lists as they were.
 pub fn price(
     orders: &[AuctionOrder],
     reference: u32,

@@ -47,6 +47,7 @@ cases =
     ∷ of (selling 1_000 100 ∷ selling 0 100 ∷ []) 0 None
     ∷ of (buying 1_000 100 ∷ selling 1_010 100 ∷ []) 0 None
     ∷ of (buying 1_010 100 ∷ selling 1_010 100 ∷ []) 0 (Price 1_010 100)
+    ∷ of (buying 1_010 1 ∷ selling 1_010 100 ∷ []) 0 (Price 1_010 1)
     ∷ of (endingIn (buying 1_000 0)) 0 (Refused 15)
     ∷ of (endingIn (buying 1_000 1)) 0 (Price 1_020 100)
     ∷ of (endingIn (buying 1_000 20_000_000)) 0 (Price 1_020 100)

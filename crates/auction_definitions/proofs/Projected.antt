@@ -1,19 +1,18 @@
 -- What is promised of the price that an auction would give, said without the way it is chosen. Request 5: "It is shown that no candidate beats the one given."
 -- Assumes nothing.
-use mathlib.Core.Bool.{Bool, true, false, cond}
+use mathlib.Core.Bool.{Bool, true, false}
 use mathlib.Core.List.{List, [], _∷_, map}
 use mathlib.Core.Path.{_≡_, refl, sym, _∙_, ap, subst}
-use Prim.Native.Nat.{ℕ, _≤_, _<_}
-use lib.Dec.{eqb, ltb}
-use borrow.Author.Tests.{eqb-false, eqb-true, eq-eqb, lt-ltb, ltb-false, ltb-true, ne-eqb}
+use Prim.Native.Nat.{ℕ, _<_}
+use lib.Dec.{eqb}
+use borrow.Author.Tests.{eqb-false, eqb-true, ltb-false, ltb-true}
 use native.Mathlib.Omega.{arith}
-use Rattle.definitions.specs.Lists.{keep}
 use Rattle.definitions.proofs.Tests.{never}
 use Rattle.auction_definitions.specs.declared.AuctionOrder.{AuctionOrder}
 use Rattle.auction_definitions.specs.declared.Line.{Line}
 use Rattle.auction_definitions.specs.declared.AuctionAnswer.{AuctionAnswer}
 use Rattle.auction_definitions.specs.declared.AuctionAnswer.the-variants.{Price, None, Refused}
-use Rattle.auction_definitions.specs.Auction.{beats, candidates, given, lineAt, traded, unbeaten, volumeOf}
+use Rattle.auction_definitions.specs.Auction.{beats, candidates, given, hasVolume, lineAt, traded, unbeaten, volumeOf}
 use Rattle.auction_definitions.proofs.Among.{Among, From, kept, mapped, none-in, of-kept, of-mapped}
 use Rattle.auction_definitions.proofs.StrictOrder.{beats-strict, behind}
 use Rattle.auction_definitions.proofs.Unbeaten.{none-beats, unbeaten-among}
@@ -35,20 +34,17 @@ variantOf (Price p v) = 1
 variantOf None = 0
 variantOf (Refused n) = 2
 
-abbrev priceOf : AuctionAnswer → ℕ
-priceOf (Price p v) = p
-priceOf None = 0
-priceOf (Refused n) = 0
+abbrev priceGiven : AuctionAnswer → ℕ
+priceGiven (Price p v) = p
+priceGiven None = 0
+priceGiven (Refused n) = 0
 
-abbrev sharesOf : AuctionAnswer → ℕ
-sharesOf (Price p v) = v
-sharesOf None = 0
-sharesOf (Refused n) = 0
+abbrev volumeGiven : AuctionAnswer → ℕ
+volumeGiven (Price p v) = v
+volumeGiven None = 0
+volumeGiven (Refused n) = 0
 
 module _ (orders : List AuctionOrder) (reference : ℕ) where
-  abbrev hasVolume : Line → Bool
-  hasVolume l = ltb 0 (volumeOf l)
-
   traded-in : (q : ℕ) → Among q (candidates orders) → hasVolume (lineAt orders q) ≡ true → Among (lineAt orders q) (traded orders)
   unfolding traded
   traded-in q at has = kept hasVolume (lineAt orders q) (map (lineAt orders) (candidates orders)) (mapped (lineAt orders) q (candidates orders) at) has
@@ -94,8 +90,8 @@ module _ (orders : List AuctionOrder) (reference : ℕ) where
       go : (ls : List Line) → traded orders ≡ ls → given reference ls ≡ Price p v → Projected orders reference p v
       go [] e f = absurd (omega (arith, ap variantOf f))
       go (l ∷ ls) e f =
-          subst (λ (w : ℕ). Projected orders reference p w) (ap sharesOf f)
-          (subst (λ (q : ℕ). Projected orders reference q (volumeOf (unbeaten reference l ls))) (ap priceOf f) (chosen l ls e))
+          subst (λ (w : ℕ). Projected orders reference p w) (ap volumeGiven f)
+          (subst (λ (q : ℕ). Projected orders reference q (volumeOf (unbeaten reference l ls))) (ap priceGiven f) (chosen l ls e))
 
   pub given-none : given reference (traded orders) ≡ None → NoVolume orders
   given-none = go (traded orders) refl

@@ -1,7 +1,7 @@
 -- Request 5 of paper 02 as theorems, a sentence each; the proofs stand in the files named. `auction` is what the code's contracts say (crates/auction).
 -- Assumes nothing.
 use mathlib.Core.Bool.{Bool, true, false, cond, not, _&&_, _||_}
-use mathlib.Core.List.{List, [], _∷_, _++_, map}
+use mathlib.Core.List.{List, [], _∷_, map}
 use mathlib.Core.Path.{_≡_, refl, sym, _∙_, ap, subst}
 use Prim.Native.Nat.{ℕ, _+_, _*_, _≤_, _<_}
 use lib.Dec.{eqb, leb, ltb}
@@ -16,7 +16,7 @@ use Rattle.definitions.specs.Codes.{maxVolume, sell}
 use Rattle.auction_definitions.specs.declared.AuctionOrder.{AuctionOrder}
 use Rattle.auction_definitions.specs.declared.AuctionAnswer.{AuctionAnswer}
 use Rattle.auction_definitions.specs.declared.AuctionAnswer.the-variants.{Price, None, Refused}
-use Rattle.auction_definitions.specs.Auction.{auction, badOrder, beats, buyersAfter, candidates, conditions, given, isAuction, isLimit, listsFit, maxOrders, placeLine, refusal, sellersAfter, sumOf, sumsIn, traded, volumeOf}
+use Rattle.auction_definitions.specs.Auction.{auction, badOrder, beats, buyersAfter, candidates, conditions, emptyLine, given, isAuction, isLimit, listsFit, maxOrders, placeLine, refusal, sellersAfter, sumOf, sumsIn, traded, volumeOf}
 use Rattle.auction_definitions.specs.declared.Line.{Line}
 use Rattle.auction_definitions.proofs.Among.{Among, From, none-of, of-kept, of-mapped}
 use Rattle.auction_definitions.proofs.StrictOrder as order
@@ -76,7 +76,7 @@ sum-bound t (o ∷ os) good =
 abbrev pub noOrder : AuctionOrder
 noOrder = record { side = 0; price = 0; volume = 0 }
 
-sums-held : (sum : Line → ℕ) (orders : List AuctionOrder) (scratch : List ℕ) (i : ℕ) → i < length orders → sum (record { price = 0; buyers = 0; sellers = 0 }) ≡ 0
+sums-held : (sum : Line → ℕ) (orders : List AuctionOrder) (scratch : List ℕ) (i : ℕ) → i < length orders → sum (emptyLine 0) ≡ 0
     → getD (sumsIn sum orders scratch) i 0 ≡ sum (placeLine orders (getD orders i noOrder))
 unfolding sumsIn placeLine
 sums-held sum orders scratch i small none =

@@ -1,13 +1,13 @@
--- `beats` is a strict total order on lines of different prices. One law for a step of an order in steps, cited at each of the four.
+-- `beats` is a strict total order on lines of different prices. One law for a step of an order in steps, cited at the first three; the last is an order of prices.
 -- Assumes nothing.
 use mathlib.Core.Bool.{Bool, true, false, _&&_, _||_}
 use mathlib.Core.Path.{_≡_, refl, sym, _∙_, subst}
 use mathlib.Core.Logic.{_⊎_, inl, inr}
 use Prim.Native.Nat.{ℕ, _<_}
-use lib.Dec.{ltb, eqb}
+use lib.Dec.{eqb}
 use borrow.Author.Tests.{eq-eqb, eqb-true, le-ltb, lt-ltb, ltb-false, ltb-true, ne-eqb}
 use native.Mathlib.Omega.{arith}
-use Rattle.definitions.proofs.Tests.{and-parts, and-second, and-whole, never, or-cases, or-first, or-parts, or-second}
+use Rattle.definitions.proofs.Tests.{and-parts, and-second, and-whole, never, or-cases, or-parts}
 use Rattle.auction_definitions.specs.declared.Line.{Line}
 use Rattle.auction_definitions.specs.Auction.{aheadBy, beats, differenceOf, distanceTo, higher, less, more, volumeOf}
 

@@ -41,6 +41,10 @@ unfoldable pub sumOf : (AuctionOrder → Bool) → List AuctionOrder → ℕ
 sumOf t [] = 0
 sumOf t (o ∷ os) = cond (t o) (o .volume) 0 + sumOf t os
 
+-- a line before any order is added
+abbrev pub emptyLine : ℕ → Line
+emptyLine p = record { price = p; buyers = 0; sellers = 0 }
+
 -- the table's line of a price
 unfoldable pub lineAt : List AuctionOrder → ℕ → Line
 lineAt orders p = record { price = p; buyers = sumOf (buysAt p) orders; sellers = sumOf (sellsAt p) orders }
@@ -81,23 +85,35 @@ unfoldable pub unbeaten : ℕ → Line → List Line → Line
 unbeaten reference l [] = l
 unbeaten reference l (m ∷ ms) = unbeaten reference (cond (beats reference m l) m l) ms
 
+-- "volume above 0"
+abbrev pub hasVolume : Line → Bool
+hasVolume l = ltb 0 (volumeOf l)
+
 -- "candidate[s] with volume above 0"
 unfoldable pub traded : List AuctionOrder → List Line
-traded orders = keep (λ l. ltb 0 (volumeOf l)) (map (lineAt orders) (candidates orders))
+traded orders = keep hasVolume (map (lineAt orders) (candidates orders))
 
 -- "No candidate with volume above 0 gives "none", and then only."
 abbrev pub given : ℕ → List Line → AuctionAnswer
 given reference [] = None
 given reference (l ∷ ls) = Price (unbeaten reference l ls .price) (volumeOf (unbeaten reference l ls))
 
--- "a side not 0 or 1, a price neither 0 nor legal, or a volume outside 1 to 20,000,000"
-unfoldable pub badOrder : AuctionOrder → Bool
-badOrder o =
-    ltb sell (o .side) || not (isAuction o || legal (o .price)) || not (leb 1 (o .volume) && leb (o .volume) maxVolume)
+-- the line of an order's place: that of its price, and for ATO or ATC, which has none, one with sums of 0
+unfoldable pub placeLine : List AuctionOrder → AuctionOrder → Line
+placeLine orders o = cond (isLimit o) (lineAt orders (o .price)) (emptyLine 0)
+
+-- at the place of each of the orders its line's sum, behind them what the scratch list held
+unfoldable pub sumsIn : (Line → ℕ) → List AuctionOrder → List ℕ → List ℕ
+sumsIn sum orders scratch = map (λ o. sum (placeLine orders o)) orders ++ drop (length orders) scratch
 
 -- "14 if the list is longer or a scratch list shorter"
 abbrev pub listsFit : ℕ → ℕ → ℕ → Bool
 listsFit orders buyers sellers = leb orders maxOrders && leb maxOrders buyers && leb maxOrders sellers
+
+-- "a side not 0 or 1, a price neither 0 nor legal, or a volume outside 1 to 20,000,000"
+unfoldable pub badOrder : AuctionOrder → Bool
+badOrder o =
+    ltb sell (o .side) || not (isAuction o || legal (o .price)) || not (leb 1 (o .volume) && leb (o .volume) maxVolume)
 
 -- "Turned away: 14 .., first; 15 for .."
 abbrev pub conditions : List AuctionOrder → List ℕ → List ℕ → List (ℕ × Bool)
@@ -112,14 +128,6 @@ refusal orders buyers sellers = firstMet (conditions orders buyers sellers)
 unfoldable pub auction : List AuctionOrder → ℕ → List ℕ → List ℕ → AuctionAnswer
 auction orders reference buyers sellers =
     cond (eqb (refusal orders buyers sellers) 0) (given reference (traded orders)) (Refused (refusal orders buyers sellers))
-
--- the line of an order's place: that of its price, and for ATO or ATC, which has none, one with sums of 0
-unfoldable pub placeLine : List AuctionOrder → AuctionOrder → Line
-placeLine orders o = cond (isLimit o) (lineAt orders (o .price)) (record { price = 0; buyers = 0; sellers = 0 })
-
--- at the place of each of the orders its line's sum, behind them what the scratch list held
-unfoldable pub sumsIn : (Line → ℕ) → List AuctionOrder → List ℕ → List ℕ
-sumsIn sum orders scratch = map (λ o. sum (placeLine orders o)) orders ++ drop (length orders) scratch
 
 -- "The scratch lists' end contents are free, except that a refusal leaves them equal."
 abbrev pub buyersAfter : List AuctionOrder → List ℕ → List ℕ → List ℕ

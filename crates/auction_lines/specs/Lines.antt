@@ -1,18 +1,12 @@
 -- What the loops over candidates and orders are told of one line.
-use mathlib.Core.Bool.{Bool, true, false, cond, _&&_}
+use mathlib.Core.Bool.{Bool, cond, not, _&&_}
 use Prim.Native.Nat.{ℕ, _+_}
-use lib.Dec.{ltb}
+use lib.Dec.{eqb}
 use Rattle.auction_definitions.specs.declared.AuctionOrder.{AuctionOrder}
 use Rattle.auction_definitions.specs.declared.Line.{Line}
 use Rattle.auction_definitions.specs.declared.AuctionAnswer.{AuctionAnswer}
 use Rattle.auction_definitions.specs.declared.AuctionAnswer.the-variants.{Price, None, Refused}
-use Rattle.auction_definitions.specs.Auction.{beats, buysAt, sellsAt, volumeOf}
-use lib.Dec.{eqb}
-use mathlib.Core.Bool.{not}
-
--- before any order is added
-abbrev pub emptyLine : ℕ → Line
-emptyLine p = record { price = p; buyers = 0; sellers = 0 }
+use Rattle.auction_definitions.specs.Auction.{beats, buysAt, hasVolume, sellsAt, volumeOf}
 
 -- what an order adds to a sum; price 0, of an ATO or ATC, is no candidate, and its sums stay 0
 abbrev pub addedAt : ℕ → Bool → ℕ → ℕ
@@ -26,6 +20,6 @@ withOrder l o =
 abbrev pub betterOf : ℕ → Line → Line → Line
 betterOf reference l best = cond (beats reference l best) l best
 
--- the answer where the last line left has volume, and where a bad order was met
+-- the answer after the loops: whether they met a bad order, and the best line that they found
 unfoldable pub answerOf : Bool → Line → AuctionAnswer
-answerOf bad best = cond bad (Refused 15) (cond (ltb 0 (volumeOf best)) (Price (best .price) (volumeOf best)) None)
+answerOf bad best = cond bad (Refused 15) (cond (hasVolume best) (Price (best .price) (volumeOf best)) None)

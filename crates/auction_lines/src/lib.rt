@@ -4,8 +4,8 @@ ghost use mathlib.Core.Bool.{cond, not, _&&_, _||_};
 ghost use Prim.Native.Nat.{_+_, _<_, _^_, min};
 ghost use lib.Dec.{eqb};
 ghost use Rattle.ladder.specs.Ladder.{legal};
-ghost use Rattle.auction_definitions.specs.Auction.{apart, auctionNumbers, badOrder, beats, listsFit, volumeOf};
-ghost use Rattle.auction_lines.specs.Lines.{answerOf, betterOf, emptyLine, withOrder};
+ghost use Rattle.auction_definitions.specs.Auction.{apart, auctionNumbers, badOrder, beats, emptyLine, listsFit, volumeOf};
+ghost use Rattle.auction_lines.specs.Lines.{answerOf, betterOf, withOrder};
 use auction_definitions::AuctionAnswer;
 use auction_definitions::AuctionNumbers;
 use auction_definitions::AuctionOrder;
@@ -38,7 +38,7 @@ fn bad_order(order: AuctionOrder) -> bool
     (SELL < order.side) | !price_or_none(order.price) | !in_range
 }
 
-// The first candidate's turn passes every order; the turns after it ask nothing again.
+// The first place's turn passes every order; the turns after it ask nothing again.
 pub fn bad_at_first(place: usize, order: AuctionOrder) -> bool
     ensures { λ r. ⌜ r ≡ (eqb place 0 && badOrder order) ⌝ }
 {
@@ -65,7 +65,8 @@ fn added(counted: bool, sum: u64, volume: u32) -> u64
     if counted { sum + (volume as u64) } else { sum }
 }
 
-// The side is asked by a branch, and the price without one: the fastest of the forms that were measured (docs/BENCHMARKS.md).
+// The side is asked by a branch, and the price without one: of the forms that were measured the one that is not slower than the second implementation at any
+// length, and the fastest at 1,024 orders (docs/BENCHMARKS.md).
 pub fn with_order(line: Line, order: AuctionOrder) -> Line
     requires { ⌜ (line .buyers < 2 ^ 63) × (line .sellers < 2 ^ 63) ⌝ }
     ensures { λ r. ⌜ r ≡ withOrder line order ⌝ }

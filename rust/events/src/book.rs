@@ -16,7 +16,7 @@ const AUCTION_TYPES: &[&str] = TYPES.words.split_at(3).0;
 /// The orders of an auction, and the reference price.
 #[derive(Clone, Debug, PartialEq, Eq)]
 pub struct Book {
-    /// In satang; 0 where it is absent.
+    /// In satang; 0 where the book has none.
     pub reference: u32,
     pub orders: Vec<BookOrder>,
 }

@@ -49,7 +49,7 @@
 //! ```
 //!
 //! - `buy` or `sell`; `limit` and a price, or `ato` or `atc`; `x` and the volume.
-//! - `reference` and a price, on a line at most; left out it is absent.
+//! - `reference` and a price, on one line at most; without it the reference is 0.
 
 #![forbid(unsafe_code)]
 

@@ -6,7 +6,7 @@ use std::io::{self, Write};
 use std::path::Path;
 
 use events::{Book, BookOrder, Price, Wrong};
-use guvontsira::{Auction, AuctionAnswer, AuctionOrder, MAX_AUCTION_ORDERS, Side};
+use guvontsira::{Auction, AuctionAnswer, AuctionOrder, MAX_AUCTION_ORDERS, MAX_PRICE, Side};
 
 use crate::failure::Failure;
 use crate::input::bad_line;
@@ -29,15 +29,26 @@ pub fn write(out: &mut impl Write, file: &Path, book: &Book) -> Result<(), Failu
     };
     let count = orders.len();
     let word = if count == 1 { "order" } else { "orders" };
-    writeln!(out, "{count} {word}, reference {}\n", Price(book.reference))?;
-    write_table(out, &sums(&orders, &auction), given.map(|(price, _)| price))?;
+    let sums = sums(&orders, &auction);
+    let reference = reference(book);
+    writeln!(out, "{count} {word}, reference {reference}\n")?;
+    write_table(out, &sums, given.map(|(price, _)| price))?;
     match given {
         Some((price, volume)) => {
             writeln!(out, "projected price {}, volume {volume}", Price(price))?;
         }
+        None if sums.is_empty() => writeln!(out, "no projected price: no limit in the book")?,
         None => writeln!(out, "no projected price: no limit's price has volume")?,
     }
     Ok(())
+}
+
+/// 0 is a reference like another, and no absent price.
+fn reference(book: &Book) -> String {
+    match book.reference {
+        0 => String::from("0.00"),
+        reference => Price(reference).to_string(),
+    }
 }
 
 fn typed(order: &BookOrder) -> AuctionOrder {
@@ -108,7 +119,7 @@ fn refused(number: u8, book: &Book, auction: &mut Auction) -> Wrong {
 
 fn reason(order: &BookOrder) -> String {
     match order.price.map(|price| (price, guvontsira::nearest(price))) {
-        Some((price, None)) => format!("{} is above 100000.00", Price(price)),
+        Some((price, None)) => format!("{} is above {}", Price(price), Price(MAX_PRICE)),
         Some((price, Some(nearest))) if !nearest.legal => standing(price, nearest),
         _ => format!("volume {} is not 1 to 20000000", order.volume),
     }

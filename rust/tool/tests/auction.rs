@@ -61,7 +61,7 @@ projected price 100.00, volume 401
     assert_eq!(out(&["auction"], book.as_bytes()), table);
 }
 
-/// Without a reference the lower of two equal prices is the nearer one.
+/// Without a reference, of two prices with equal volume and difference the lower is the nearer.
 #[test]
 fn reference() {
     let book = "buy limit 2.00 x 100\nsell limit 2.06 x 100\nbuy ato x 100\nsell ato x 100\n";
@@ -77,15 +77,16 @@ fn reference() {
 
 #[test]
 fn no_price() {
-    let last = "no projected price: no limit's price has volume\n";
-    assert_eq!(auction(""), format!("0 orders, reference -\n\n{last}"));
+    let last = "no projected price: no limit in the book\n";
+    assert_eq!(auction(""), format!("0 orders, reference 0.00\n\n{last}"));
     let alone = auction("buy ato x 100\nreference 50.00\n");
     assert_eq!(alone, format!("1 order, reference 50.00\n\n{last}"));
+    let last = "no projected price: no limit's price has volume\n";
     assert_eq!(
         auction("buy limit 1.00 x 100\nsell limit 1.01 x 5\n"),
         format!(
             "\
-2 orders, reference -
+2 orders, reference 0.00
 
 price  buyers  sellers  volume
  1.00     100        0       0

@@ -58,9 +58,9 @@ use Rattle.auction_definitions.specs.declared.AuctionAnswer.{AuctionAnswer}
 use Rattle.auction_definitions.specs.declared.AuctionAnswer.the-variants.{Refused}
 use Rattle.auction_definitions.specs.declared.AuctionOrder.{AuctionOrder}
 use Rattle.auction_definitions.specs.declared.Line.{Line}
-use Rattle.auction_definitions.specs.Auction.{badOrder, listsFit}
-use Rattle.auction_lines.specs.Lines.{answerOf, betterOf, emptyLine, withOrder}
-use Rattle.auction.specs.Turns.{noOrder}
+use Rattle.auction_definitions.specs.Auction.{badOrder, emptyLine, listsFit}
+use Rattle.auction_lines.specs.Lines.{answerOf, betterOf, withOrder}
+use Rattle.auction_definitions.proofs.Promises.{noOrder}
 use Rattle.auction_definitions.proofs.AuctionAnswer as N
 use Rattle.auction_definitions.proofs.AuctionAnswer.Laws as N′
 use Rattle.auction_definitions.proofs.AuctionOrder as O
@@ -168,9 +168,9 @@ module _ {M : Type 1} (𝓤 : URA M) (H : Heap 𝓤) (A : Atoms 𝓤) (W : Given
 
   exits : (r : AuctionAnswer) (bs ss : List ℕ) → Is N.the-row r (N′.lowered r ∷ []) → length bs ≡ length bs₀ → length ss ≡ length ss₀ → Promised os reference bs₀ ss₀ r bs ss
       → ent 𝓤 (⋆ 𝓤 H A (Owned bs ss [])) (Post (N′.lowered r))
-  exits r bs ss is lb ls promised =
+  exits r bs ss is lb ls promise =
       qed W (Owned bs ss []) ∵
-      suffices ! _ (ends-at 𝓤 H A price.ended stayed (price.clauses 𝓤 H A mem run) W (((κ₀, (κ₁, (κ₂, tt))), (q₀, (q₁, (q₂, tt))), tt, a, vals), tt) (N′.lowered r) r (tt, (tt, (bs, (ss, tt)))) (tt, (tt, (lb, (ls, tt))))) $ says ! promised $
+      suffices ! _ (ends-at 𝓤 H A price.ended stayed (price.clauses 𝓤 H A mem run) W (((κ₀, (κ₁, (κ₂, tt))), (q₀, (q₁, (q₂, tt))), tt, a, vals), tt) (N′.lowered r) r (tt, (tt, (bs, (ss, tt)))) (tt, (tt, (lb, (ls, tt))))) $ says ! promise $
       -- the tokens
       nothing ! $ move ! (5 ∷ 0 ∷ []) $ join ! $ move ! (7 ∷ 0 ∷ []) $ join ! $ move ! (7 ∷ 0 ∷ []) $ join ! $ frame ! $
       -- [the fractured borrow; its res; sellers' obs; its borrow; buyers' obs; its borrow]
@@ -228,13 +228,13 @@ module _ {M : Type 1} (𝓤 : URA M) (H : Heap 𝓤) (A : Atoms 𝓤) (W : Given
       -- the result is in its local: it is returned, and the locals are freed
       leaves : (q : Kit.Post 𝓤 H) → post 𝓤 H q returnsᴼ ≡ atReturn 𝓤 H E Post returnsᴼ → (r : AuctionAnswer) (bs ss : List ℕ) → Is N.the-row r (N′.lowered r ∷ []) → length bs ≡ length bs₀ → length ss ≡ length ss₀ → Promised os reference bs₀ ss₀ r bs ss
           → Sq W (Owned bs ss (Freed r)) (runs (𝓣 .C) (𝓣 .Λ) E return q)
-      leaves q to r bs ss is lb ls promised =
+      leaves q to r bs ss is lb ls promise =
           returns-within ! Post to (look ! 9 refl) $ forget ! 9 refl $
           move ! (9 ∷ 36 ∷ []) $ free1 ! $ move ! (9 ∷ 35 ∷ []) $ free1 ! $ move ! (9 ∷ 34 ∷ []) $ free1 ! $ move ! (9 ∷ 33 ∷ []) $ free1 ! $ move ! (9 ∷ 32 ∷ []) $ free1 ! $ move ! (9 ∷ 31 ∷ []) $ free1 ! $ move ! (9 ∷ 30 ∷ []) $ free1 ! $
           move ! (9 ∷ 29 ∷ []) $ free1 ! $ move ! (9 ∷ 28 ∷ []) $ free1 ! $ move ! (9 ∷ 27 ∷ []) $ free1 ! $ move ! (9 ∷ 26 ∷ []) $ free1 ! $ move ! (9 ∷ 25 ∷ []) $ free1 ! $ move ! (9 ∷ 24 ∷ []) $ free1 ! $ move ! (9 ∷ 23 ∷ []) $ free1 ! $
           move ! (9 ∷ 22 ∷ []) $ free1 ! $ move ! (9 ∷ 21 ∷ []) $ free1 ! $ move ! (9 ∷ 20 ∷ []) $ free1 ! $ move ! (9 ∷ 19 ∷ []) $ free1 ! $ move ! (9 ∷ 18 ∷ []) $ free1 ! $ move ! (9 ∷ 17 ∷ []) $ free1 ! $ move ! (9 ∷ 16 ∷ []) $ free1 ! $
           move ! (9 ∷ 15 ∷ []) $ free1 ! $ move ! (9 ∷ 14 ∷ []) $ free1 ! $ move ! (9 ∷ 13 ∷ []) $ free1 ! $ move ! (9 ∷ 12 ∷ []) $ free1 ! $ move ! (9 ∷ 11 ∷ []) $ free1 ! $ move ! (9 ∷ 10 ∷ []) $ free1 ! $
-          free0 ! $ by ! (exits r bs ss is lb ls promised)
+          free0 ! $ by ! (exits r bs ss is lb ls promise)
 
       -- ---- the two loops, with every borrow open at the share q of the orders, and any more of the context behind
       module _ (q : Share) (Δ : List (Item 𝓤)) where

@@ -1,7 +1,7 @@
 -- `auction_lines::answer_of` meets its contract: a bad order, a line with no volume, a line with some.
 -- Assumes nothing.
 use borrow.Author.Needs.{needs}
-use borrow.Author.Tests.{le-ltb, lt-ltb}
+use borrow.Author.Tests.{lt-ltb}
 use native.Mathlib.Omega.{arith}
 use Rattle.auction_lines.specs.Lines.{answerOf}
 use Rattle.auction_lines.proofs.answer_of.Statement.{statement}
