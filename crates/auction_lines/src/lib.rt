@@ -65,8 +65,7 @@ fn added(counted: bool, sum: u64, volume: u32) -> u64
     if counted { sum + (volume as u64) } else { sum }
 }
 
-// The side is asked by a branch, and the price without one: of the forms that were measured the one that is not slower than the second implementation at any
-// length, and the fastest at 1,024 orders (docs/BENCHMARKS.md).
+// The side is asked by a branch, and the price without one: docs/BENCHMARKS.md has this form's time and others'.
 pub fn with_order(line: Line, order: AuctionOrder) -> Line
     requires { ⌜ (line .buyers < 2 ^ 63) × (line .sellers < 2 ^ 63) ⌝ }
     ensures { λ r. ⌜ r ≡ withOrder line order ⌝ }
