@@ -17,7 +17,7 @@ use Rattle.auction_definitions.specs.declared.Line.{Line}
 use Rattle.auction_definitions.specs.declared.AuctionAnswer.{AuctionAnswer}
 use Rattle.auction_definitions.specs.declared.AuctionAnswer.the-variants.{Refused}
 use Rattle.auction_definitions.specs.Auction.{auction, badOrder, buyersAfter, buysAt, emptyLine, lineAt, listsFit, placeLine, refusal, sellersAfter, sellsAt, sumOf, sumsIn}
-use Rattle.auction_definitions.proofs.Promises.{noOrder}
+use Rattle.auction_definitions.proofs.Accepted.{noOrder}
 use Rattle.auction_lines.specs.Lines.{answerOf, betterOf, withOrder}
 use Rattle.auction.specs.Turns.{bestAfter, filledTo, lineAfter}
 use Rattle.auction.proofs.Chosen.{chosen}

@@ -1,8 +1,11 @@
 pub mod StrictOrder
 pub mod Among
+pub mod Limits
 pub mod Unbeaten
 pub mod Permuted
 pub mod Projected
+pub mod Accepted
+pub mod AnyOrder
 pub mod Promises
 pub mod Books
 pub mod Cases

@@ -2,14 +2,15 @@
 -- Assumes nothing.
 use mathlib.Core.Bool.{Bool, true, false, cond, _||_}
 use mathlib.Core.List.{List, [], _∷_}
-use mathlib.Core.Path.{_≡_, refl, sym, _∙_, ap, subst}
+use mathlib.Core.Path.{_≡_, refl, _∙_, ap}
 use Prim.Native.Nat.{ℕ, suc, _+_}
 use native.Mathlib.Omega.{arith}
 use lib.ListN.{length}
-use Rattle.definitions.specs.Lists.{any, keep}
+use Rattle.definitions.specs.Lists.{any}
 use Rattle.auction_definitions.specs.declared.AuctionOrder.{AuctionOrder}
-use Rattle.auction_definitions.specs.Auction.{candidates, isLimit, lineAt, sumOf, buysAt, sellsAt}
-use Rattle.auction_definitions.proofs.Among.{Among, first, later, From, kept, mapped, of-kept, of-mapped}
+use Rattle.auction_definitions.specs.Auction.{candidates, lineAt, sumOf, buysAt, sellsAt}
+use Rattle.auction_definitions.proofs.Among.{Among, first, later}
+use Rattle.auction_definitions.proofs.Limits.{LimitAt, candidate-of, limit-of}
 
 -- the same elements, each as often, in another order
 pub data Permuted {A : Type 0} : List A → List A → Type 0 where
@@ -64,9 +65,6 @@ module _ {xs ys : List AuctionOrder} (permuted : Permuted xs ys) where
   line-permuted p = rw (sum-permuted (buysAt p) permuted, sum-permuted (sellsAt p) permuted)
 
   pub candidate-permuted : {p : ℕ} → Among p (candidates xs) → Among p (candidates ys)
-  unfolding candidates
   candidate-permuted {p} at =
-      let found : From (λ (o : AuctionOrder). o .price) p (keep isLimit xs) = of-mapped (λ o. o .price) p (keep isLimit xs) at in
-      let limit : Among (found .of) xs × (isLimit (found .of) ≡ true) = of-kept isLimit (found .of) xs (found .among) in
-      subst (λ (q : ℕ). Among q (candidates ys)) (sym (found .same))
-      (mapped (λ o. o .price) (found .of) (keep isLimit ys) (kept isLimit (found .of) ys (among-permuted permuted (limit .0)) (limit .1)))
+      let its : LimitAt xs p = limit-of xs at in
+      candidate-of ys (record { order = its .order; among = among-permuted permuted (its .among); limit = its .limit; price = its .price })

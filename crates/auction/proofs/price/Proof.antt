@@ -60,7 +60,7 @@ use Rattle.auction_definitions.specs.declared.AuctionOrder.{AuctionOrder}
 use Rattle.auction_definitions.specs.declared.Line.{Line}
 use Rattle.auction_definitions.specs.Auction.{badOrder, emptyLine, listsFit}
 use Rattle.auction_lines.specs.Lines.{answerOf, betterOf, withOrder}
-use Rattle.auction_definitions.proofs.Promises.{noOrder}
+use Rattle.auction_definitions.proofs.Accepted.{noOrder}
 use Rattle.auction_definitions.proofs.AuctionAnswer as N
 use Rattle.auction_definitions.proofs.AuctionAnswer.Laws as N′
 use Rattle.auction_definitions.proofs.AuctionOrder as O
