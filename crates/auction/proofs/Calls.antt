@@ -44,8 +44,8 @@ use Rattle.auction_definitions.proofs.Line as L
 use Rattle.auction_definitions.proofs.Line.Laws as L′
 use Rattle.auction_lines.proofs.lists_fit as lists-fit
 use Rattle.auction_lines.proofs.lists_fit.Symbol.{name as #lists-fit}
-use Rattle.auction_lines.proofs.line_at as line-at
-use Rattle.auction_lines.proofs.line_at.Symbol.{name as #line-at}
+use Rattle.auction_lines.proofs.empty_line as empty-line
+use Rattle.auction_lines.proofs.empty_line.Symbol.{name as #empty-line}
 use Rattle.auction_lines.proofs.bad_at_first as bad-at-first
 use Rattle.auction_lines.proofs.bad_at_first.Symbol.{name as #bad-at-first}
 use Rattle.auction_lines.proofs.with_order as with-order
@@ -86,8 +86,8 @@ module _ {M : Type 1} (𝓤 : URA M) (H : Heap 𝓤) (A : Atoms 𝓤) (mem : Mem
   abbrev pub ListsFit : Contract 𝓤
   ListsFit = tripleOf 𝓤 H A lists-fit.signature (lists-fit.spec 𝓤 H A mem run)
 
-  abbrev pub LineAt : Contract 𝓤
-  LineAt = tripleOf 𝓤 H A line-at.signature (line-at.spec 𝓤 H A mem run)
+  abbrev pub EmptyLine : Contract 𝓤
+  EmptyLine = tripleOf 𝓤 H A empty-line.signature (empty-line.spec 𝓤 H A mem run)
 
   abbrev pub BadAtFirst : Contract 𝓤
   BadAtFirst = tripleOf 𝓤 H A bad-at-first.signature (bad-at-first.spec 𝓤 H A mem run)
@@ -119,22 +119,22 @@ module _ {M : Type 1} (𝓤 : URA M) (H : Heap 𝓤) (A : Atoms 𝓤) (W : Given
     calls-lists-fit t fm known a-is b-is c-is = calls-plain t fm (ListsFit 𝓤 H A mem run) known to-lists-fit (goes-lists-fit a-is b-is c-is) bool vbool (bool-tells) (listsFit a b c) said-lists-fit (λ u. id⊢ 𝓤 _)
         (λ r. exE 𝓤 _ (λ ws. snd∗ 𝓤 (sem 𝓤 H A (lasts lists-fit.ended tt (a, (b, (c, tt))) ws)) (fact 𝓤 (r ≡ listsFit a b c))))
 
-  -- `line-at`
+  -- `empty-line`
   module _ (p : ℕ) where
-    abbrev to-line-at : LineAt 𝓤 H A mem run .Ghost
-    to-line-at = ((tt, tt, tt, (p, tt), (vint w32 p ∷ [], tt)), tt)
+    abbrev to-empty-line : EmptyLine 𝓤 H A mem run .Ghost
+    to-empty-line = ((tt, tt, tt, (p, tt), (vint w32 p ∷ [], tt)), tt)
 
-    goes-line-at : p < 2 ^ 32 → ent 𝓤 (emp 𝓤) (LineAt 𝓤 H A mem run .pre to-line-at)
-    goes-line-at p-is = qed W [] ∵ nothing ! $ owned ! u32 (Is u32) (uint-makes 𝓤 H A W w32) p _ (refl, p-is) $ fjoin ! $ nothing ! $ join ! $ frame ! $ done !
+    goes-empty-line : p < 2 ^ 32 → ent 𝓤 (emp 𝓤) (EmptyLine 𝓤 H A mem run .pre to-empty-line)
+    goes-empty-line p-is = qed W [] ∵ nothing ! $ owned ! u32 (Is u32) (uint-makes 𝓤 H A W w32) p _ (refl, p-is) $ fjoin ! $ nothing ! $ join ! $ frame ! $ done !
 
-    abbrev said-line-at : Line → SProp 𝓤
-    said-line-at = ensured 𝓤 H A line-at.ended (line-at.clauses 𝓤 H A mem run) tt (p, tt) tt
+    abbrev said-empty-line : Line → SProp 𝓤
+    said-empty-line = ensured 𝓤 H A empty-line.ended (empty-line.clauses 𝓤 H A mem run) tt (p, tt) tt
 
-    pub calls-line-at : {K : Type 0} {Γ : List (Item 𝓤)} {E : Env 𝓤 H} {C : Calls 𝓤 H} {Λ : Loops 𝓤 H} {q : Post 𝓤 H} {xs : List Operand} {d : Place} {rest : Body} → K → FmC 𝓤 H (W .laws) C → Triple 𝓤 (C #line-at) (LineAt 𝓤 H A mem run)
+    pub calls-empty-line : {K : Type 0} {Γ : List (Item 𝓤)} {E : Env 𝓤 H} {C : Calls 𝓤 H} {Λ : Loops 𝓤 H} {q : Post 𝓤 H} {xs : List Operand} {d : Place} {rest : Body} → K → FmC 𝓤 H (W .laws) C → Triple 𝓤 (C #empty-line) (EmptyLine 𝓤 H A mem run)
         → p < 2 ^ 32 → Opds K W Γ E xs (vint w32 p ∷ []) → (Is L.the-row (emptyLine p) (L′.lowered (emptyLine p) ∷ []) → Seq K W Γ (lands C Λ E d (L′.lowered (emptyLine p)) rest q))
-        → Seq K W Γ (runs C Λ E (seq (call #line-at xs d) rest) q)
-    calls-line-at t fm known p-is = calls-plain t fm (LineAt 𝓤 H A mem run) known to-line-at (goes-line-at p-is) L.the-row L′.lowered (L′.lowers .val-is) (emptyLine p) said-line-at (λ u. id⊢ 𝓤 _)
-        (λ r. exE 𝓤 _ (λ ws. snd∗ 𝓤 (sem 𝓤 H A (lasts line-at.ended tt (p, tt) ws)) (fact 𝓤 (r ≡ emptyLine p))))
+        → Seq K W Γ (runs C Λ E (seq (call #empty-line xs d) rest) q)
+    calls-empty-line t fm known p-is = calls-plain t fm (EmptyLine 𝓤 H A mem run) known to-empty-line (goes-empty-line p-is) L.the-row L′.lowered (L′.lowers .val-is) (emptyLine p) said-empty-line (λ u. id⊢ 𝓤 _)
+        (λ r. exE 𝓤 _ (λ ws. snd∗ 𝓤 (sem 𝓤 H A (lasts empty-line.ended tt (p, tt) ws)) (fact 𝓤 (r ≡ emptyLine p))))
 
   -- `bad-at-first`
   module _ (i : ℕ) (o : AuctionOrder) where

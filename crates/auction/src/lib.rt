@@ -21,11 +21,11 @@ pub fn price(
     if !auction_lines::lists_fit(count, buyers.len(), sellers.len()) {
         return AuctionAnswer::Refused(14);
     }
-    let mut best = auction_lines::line_at(0);
+    let mut best = auction_lines::empty_line(0);
     let mut bad = false;
     let mut i = 0;
     'candidates: while i < count {
-        let mut line = auction_lines::line_at(orders[i].price);
+        let mut line = auction_lines::empty_line(orders[i].price);
         let mut j = 0;
         while j < count {
             let order = orders[j];

@@ -6,6 +6,7 @@ use mathlib.Core.Path.{_≡_, refl, sym, _∙_, subst}
 use Prim.Native.Nat.{ℕ, _+_, _*_, _≤_, _<_}
 use lib.Dec.{leb, ltb}
 use lib.ListN.{length, getD, drop, length-map, List·getD-append, List·getD-map}
+use lib.Seq.{drop-at}
 use borrow.Author.Tests.{leb-true}
 use native.Mathlib.Omega.{arith}
 use Rattle.ladder.specs.Ladder.{legal}
@@ -74,3 +75,8 @@ unfolding sumsIn placeLine
 sums-held sum orders scratch i small none =
     List·getD-append (map (λ o. sum (placeLine orders o)) orders) (drop (length orders) scratch) 0 i (subst (λ (n : ℕ). i < n) (sym (length-map orders (λ o. sum (placeLine orders o)))) small)
     ∙ subst (λ (d : ℕ). getD (map (λ o. sum (placeLine orders o)) orders) i d ≡ sum (placeLine orders (getD orders i noOrder))) none (List·getD-map (λ o. sum (placeLine orders o)) orders i noOrder)
+
+pub sums-behind : (sum : Line → ℕ) (orders : List AuctionOrder) (scratch : List ℕ) → drop (length orders) (sumsIn sum orders scratch) ≡ drop (length orders) scratch
+unfolding sumsIn
+sums-behind sum orders scratch =
+    drop-at (map (λ o. sum (placeLine orders o)) orders) (drop (length orders) scratch) (length orders) (length-map orders (λ o. sum (placeLine orders o)))

@@ -34,12 +34,12 @@ abbrev pub book003 : List AuctionOrder
 book003 = buying 4_900 900 ∷ buying 4_800 300 ∷ selling 4_900 400 ∷ selling 5_200 4_400 ∷ selling 0 600 ∷ []
 
 -- equal volume at 10.00 and 10.20, and the difference is less at the higher
-abbrev pub higherNearer : List AuctionOrder
-higherNearer = buying 1_020 100 ∷ buying 1_000 200 ∷ selling 1_000 100 ∷ []
+abbrev pub higherByDifference : List AuctionOrder
+higherByDifference = buying 1_020 100 ∷ buying 1_000 200 ∷ selling 1_000 100 ∷ []
 
 -- and at the lower
-abbrev pub lowerNearer : List AuctionOrder
-lowerNearer = buying 1_020 100 ∷ selling 1_000 100 ∷ selling 1_020 200 ∷ []
+abbrev pub lowerByDifference : List AuctionOrder
+lowerByDifference = buying 1_020 100 ∷ selling 1_000 100 ∷ selling 1_020 200 ∷ []
 
 -- equal volume and difference at 10.00 and 10.20
 abbrev pub evenBook : List AuctionOrder

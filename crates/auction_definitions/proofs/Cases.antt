@@ -10,7 +10,7 @@ use Rattle.auction_definitions.specs.declared.AuctionAnswer.the-variants
 use Rattle.auction_definitions.specs.Auction.{auction, auctionNumbers, badOrder, beats, buyersAfter, candidates, lineAt, placeLine, refusal, sellersAfter, sumOf, sumsIn, traded, unbeaten, volumeOf}
 use Rattle.definitions.specs.Lists.{any, firstMet, keep}
 use Rattle.ladder.specs.Ladder.{legal, bandOfPrice, lastBand}
-use Rattle.auction_definitions.proofs.Books.{atoBothSides, book002, book003, buying, endingIn, evenBook, higherNearer, lowerNearer, many, selling}
+use Rattle.auction_definitions.proofs.Books.{atoBothSides, book002, book003, buying, endingIn, evenBook, higherByDifference, lowerByDifference, many, selling}
 
 pub record Case : Type 0 where
   pub orders : List AuctionOrder
@@ -32,8 +32,8 @@ cases =
     ∷ of book002 4_294_967_295 (Price 10_200 3_500)
     ∷ of book003 0 (Price 4_900 900)
     ∷ of book003 4_294_967_295 (Price 4_900 900)
-    ∷ of higherNearer 1_000 (Price 1_020 100)
-    ∷ of lowerNearer 1_020 (Price 1_000 100)
+    ∷ of higherByDifference 1_000 (Price 1_020 100)
+    ∷ of lowerByDifference 1_020 (Price 1_000 100)
     ∷ of evenBook 0 (Price 1_000 100)
     ∷ of evenBook 1_000 (Price 1_000 100)
     ∷ of evenBook 1_009 (Price 1_000 100)
@@ -48,11 +48,14 @@ cases =
     ∷ of (buying 1_000 100 ∷ selling 1_010 100 ∷ []) 0 None
     ∷ of (buying 1_010 100 ∷ selling 1_010 100 ∷ []) 0 (Price 1_010 100)
     ∷ of (buying 1_010 1 ∷ selling 1_010 100 ∷ []) 0 (Price 1_010 1)
+    ∷ of (buying 1 100 ∷ selling 1 100 ∷ []) 0 (Price 1 100)
     ∷ of (endingIn (buying 1_000 0)) 0 (Refused 15)
     ∷ of (endingIn (buying 1_000 1)) 0 (Price 1_020 100)
     ∷ of (endingIn (buying 1_000 20_000_000)) 0 (Price 1_020 100)
     ∷ of (endingIn (buying 1_000 20_000_001)) 0 (Refused 15)
+    ∷ of (endingIn (selling 1_000 0)) 0 (Refused 15)
     ∷ of (endingIn (record { side = 2; price = 1_000; volume = 100 })) 0 (Refused 15)
+    ∷ of (endingIn (record { side = 2; price = 0; volume = 100 })) 0 (Refused 15)
     ∷ of (endingIn (buying 1_005 100)) 0 (Refused 15)
     ∷ of (endingIn (selling 10_000_000 100)) 0 (Price 1_000 100)
     ∷ of (endingIn (selling 10_000_001 100)) 0 (Refused 15)

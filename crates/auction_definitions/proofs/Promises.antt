@@ -6,7 +6,7 @@ use mathlib.Core.List.{List, [], _∷_}
 use mathlib.Core.Path.{_≡_, refl, sym, _∙_, ap, subst}
 use Prim.Native.Nat.{ℕ, _≤_, _<_}
 use lib.Dec.{eqb}
-use lib.ListN.{length, getD}
+use lib.ListN.{length, getD, drop}
 use borrow.Author.Tests.{eqb-false, eqb-true, ne-eqb, not-true}
 use native.Mathlib.Omega.{arith}
 use Rattle.ladder.specs.Ladder.{legal}
@@ -15,13 +15,13 @@ use Rattle.auction_definitions.specs.declared.AuctionOrder.{AuctionOrder
 use Rattle.auction_definitions.specs.declared.Line.{Line}
 use Rattle.auction_definitions.specs.declared.AuctionAnswer.{AuctionAnswer}
 use Rattle.auction_definitions.specs.declared.AuctionAnswer.the-variants.{Price, None, Refused}
-use Rattle.auction_definitions.specs.Auction.{auction, badOrder, beats, buyersAfter, conditions, given, isAuction, placeLine, refusal, sellersAfter, sumOf, traded}
+use Rattle.auction_definitions.specs.Auction.{auction, badOrder, beats, buyersAfter, conditions, given, isAuction, placeLine, refusal, sellersAfter, sumOf, sumsIn, traded}
 use Rattle.auction_definitions.proofs.StrictOrder as order
 use Rattle.auction_definitions.proofs.Among.{none-of}
 use Rattle.auction_definitions.proofs.Limits.{LimitAt, limit-of}
 use Rattle.auction_definitions.proofs.Permuted.{Permuted}
 use Rattle.auction_definitions.proofs.Projected.{NoVolume, Projected, given-none, given-price, none-given, only-one, price-given, variantOf}
-use Rattle.auction_definitions.proofs.Accepted.{good-limit, lists-fit, noOrder, none-bad, sum-bound, sums-held}
+use Rattle.auction_definitions.proofs.Accepted.{good-limit, lists-fit, noOrder, none-bad, sum-bound, sums-behind, sums-held}
 use Rattle.auction_definitions.proofs.AnyOrder.{given-permuted, refusal-permuted}
 
 -- "Beats" is a strict order, and total on different prices
@@ -123,6 +123,17 @@ module _ (orders : List AuctionOrder) (reference : ℕ) (buyers sellers : List �
 
   pub sellers-held : refusal orders buyers sellers ≡ 0 → (i : ℕ) → i < length orders → getD (sellersAfter orders buyers sellers) i 0 ≡ placeLine orders (getD orders i noOrder) .sellers
   sellers-held fits i small = rw fits (sums-held (λ l. l .sellers) orders sellers i small refl)
+
+  behind : (sum : Line → ℕ) (scratch : List ℕ) (t : Bool) → drop (length orders) (cond t (sumsIn sum orders scratch) scratch) ≡ drop (length orders) scratch
+  behind sum scratch true = sums-behind sum orders scratch
+  behind sum scratch false = refl
+
+  -- and behind the orders what they held
+  pub buyers-behind : drop (length orders) (buyersAfter orders buyers sellers) ≡ drop (length orders) buyers
+  buyers-behind = behind (λ l. l .buyers) buyers (eqb (refusal orders buyers sellers) 0)
+
+  pub sellers-behind : drop (length orders) (sellersAfter orders buyers sellers) ≡ drop (length orders) sellers
+  sellers-behind = behind (λ l. l .sellers) sellers (eqb (refusal orders buyers sellers) 0)
 
 -- the order of the list does not matter
 pub any-order : {orders others : List AuctionOrder} (reference : ℕ) (buyers sellers : List ℕ) → Permuted orders others

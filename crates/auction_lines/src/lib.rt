@@ -1,4 +1,4 @@
-// Paper 02, 5: one order, one line, and two lines held against each other; no list.
+// Paper 02, 5: one order, one line, and two lines held against each other. Nothing here is handed a list, only how long lists are and which place has its turn.
 ghost use mathlib.Core.Path.{_≡_};
 ghost use mathlib.Core.Bool.{cond, not, _&&_, _||_};
 ghost use Prim.Native.Nat.{_+_, _<_, _^_, min};
@@ -48,7 +48,7 @@ pub fn bad_at_first(place: usize, order: AuctionOrder) -> bool
     bad_order(order)
 }
 
-pub fn line_at(price: u32) -> Line
+pub fn empty_line(price: u32) -> Line
     ensures { λ r. ⌜ r ≡ emptyLine price ⌝ }
 {
     Line {

@@ -1,4 +1,4 @@
--- `auction::price` meets its contract: a walk of its MIR, by hand, since the borrow checker covers no reference to a struct. Nothing is computed here: all that the proof knows of `lists_fit`, `line_at`, `bad_at_first`, `with_order`, `better` and `answer_of` is that each meets its contract (`Calls.antt`),
+-- `auction::price` meets its contract: a walk of its MIR, by hand, since the borrow checker covers no reference to a struct. Nothing is computed here: all that the proof knows of `lists_fit`, `empty_line`, `bad_at_first`, `with_order`, `better` and `answer_of` is that each meets its contract (`Calls.antt`),
 -- and what the loops have done is said, and kept by a turn, in `Laws.antt`. The three borrows are opened once, before the loops, and closed once, after them: between, memory is the function's own, and each loop's state is a list of cells (`States.antt` has what holds of it).
 --     Owned bs ss      what is owned while no borrow is open, the scratch lists being bs and ss.        exits, leaves      from there to what the contract says; and the `return`, which frees the locals
 --     Cx               what a turn has while all are open: a share of the orders, both scratch lists, the locals, and more that no turn touches
@@ -69,9 +69,9 @@ use Rattle.auction_definitions.proofs.Line.Laws as L′
 use Rattle.auction_lines.proofs.lists_fit.Symbol as lists-fit-def
 use Rattle.auction_lines.proofs.lists_fit.Symbol.{name as #lists-fit}
 use Rattle.auction_lines.proofs.lists_fit.Met as lists-fit-thm
-use Rattle.auction_lines.proofs.line_at.Symbol as line-at-def
-use Rattle.auction_lines.proofs.line_at.Symbol.{name as #line-at}
-use Rattle.auction_lines.proofs.line_at.Met as line-at-thm
+use Rattle.auction_lines.proofs.empty_line.Symbol as empty-line-def
+use Rattle.auction_lines.proofs.empty_line.Symbol.{name as #empty-line}
+use Rattle.auction_lines.proofs.empty_line.Met as empty-line-thm
 use Rattle.auction_lines.proofs.bad_at_first.Symbol as bad-at-first-def
 use Rattle.auction_lines.proofs.bad_at_first.Symbol.{name as #bad-at-first}
 use Rattle.auction_lines.proofs.bad_at_first.Met as bad-at-first-thm
@@ -84,7 +84,7 @@ use Rattle.auction_lines.proofs.better.Met as better-thm
 use Rattle.auction_lines.proofs.answer_of.Symbol as answer-of-def
 use Rattle.auction_lines.proofs.answer_of.Symbol.{name as #answer-of}
 use Rattle.auction_lines.proofs.answer_of.Met as answer-of-thm
-use Rattle.auction.proofs.Calls.{ListsFit, LineAt, BadAtFirst, WithOrder, Better, AnswerOf, calls-lists-fit, calls-line-at, calls-bad-at-first, calls-with-order, calls-better, calls-answer-of}
+use Rattle.auction.proofs.Calls.{ListsFit, EmptyLine, BadAtFirst, WithOrder, Better, AnswerOf, calls-lists-fit, calls-empty-line, calls-bad-at-first, calls-with-order, calls-better, calls-answer-of}
 use Rattle.auction.proofs.States.{Places, Passed, past, holds, fails, holds-twice, sizes, order-typed, line-typed, answer-typed}
 use Rattle.auction.proofs.Laws.{Candidates, Orders, candidates-start, candidates-next, orders-start, orders-next, small, Promised, promised, promised-bad, promised-unfit}
 use Rattle.auction.proofs.price.Key.{name as #auction·price}
@@ -181,7 +181,7 @@ module _ {M : Type 1} (𝓤 : URA M) (H : Heap 𝓤) (A : Atoms 𝓤) (W : Given
       owned ! N.the-row (Is N.the-row) (EL.makes N.the-type N′.the-plain 𝓤 H A) r _ is $ done !
 
   module _ (𝓣 : Tables 𝓤 H) (known-lists-fit : Triple 𝓤 (𝓣 .C #lists-fit) (ListsFit 𝓤 H A mem run))
-      (known-line-at : Triple 𝓤 (𝓣 .C #line-at) (LineAt 𝓤 H A mem run))
+      (known-empty-line : Triple 𝓤 (𝓣 .C #empty-line) (EmptyLine 𝓤 H A mem run))
       (known-bad-at-first : Triple 𝓤 (𝓣 .C #bad-at-first) (BadAtFirst 𝓤 H A mem run))
       (known-with-order : Triple 𝓤 (𝓣 .C #with-order) (WithOrder 𝓤 H A mem run))
       (known-better : Triple 𝓤 (𝓣 .C #better) (Better 𝓤 H A mem run))
@@ -384,7 +384,7 @@ module _ {M : Type 1} (𝓤 : URA M) (H : Heap 𝓤) (A : Atoms 𝓤) (W : Given
                 -- [orders[i]; what it owns; the others; the buyers' list; the sellers'; the locals]
                 assigns ! (of-opd ! (load ! (from ! (hop ! (look ! 23 refl) (fld ! refl (stop !)))) (look-in ! 0 (sub ! 1 refl (whole !))))) (from ! (stop !)) (init ! 24 refl (tt, record { fits = p-is })) $
                 elem-back ! O.the-row q os i noOrder (O′.lowered o ∷ []) b₀ o₀ i-small $
-                calls-line-at 𝓤 H A W mem run (o .price) ! fm known-line-at p-is (and-then ! (load ! (from ! (stop !)) (look ! 22 refl)) (no-more !)) (λ line-is.
+                calls-empty-line 𝓤 H A W mem run (o .price) ! fm known-empty-line p-is (and-then ! (load ! (from ! (stop !)) (look ! 22 refl)) (no-more !)) (λ line-is.
                 land ! (from ! (stop !)) (init ! 12 refl (line-typed _ line-is)) $
                 assigns ! (of-opd ! (lit ! tt)) (from ! (stop !)) (init ! 13 refl (tt, record { fits = lit< tt })) $
                 forget ! 19 refl $ forget ! 20 refl $ forget ! 21 refl $ forget ! 22 refl $ first ! $
@@ -435,7 +435,7 @@ module _ {M : Type 1} (𝓤 : URA M) (H : Heap 𝓤) (A : Atoms 𝓤) (W : Given
           -- the lists fit
           (λ fits. skips ! $ exec ! (𝓣 .C) (𝓣 .Λ) E body.t-7 (atRet E Post) $
           forget ! 21 refl $ forget ! 22 refl $ forget ! 23 refl $ forget ! 24 refl $
-          calls-line-at 𝓤 H A W mem run 0 ! fm known-line-at (lit< tt) (and-then ! (lit ! tt) (no-more !)) (λ best-is.
+          calls-empty-line 𝓤 H A W mem run 0 ! fm known-empty-line (lit< tt) (and-then ! (lit ! tt) (no-more !)) (λ best-is.
           land ! (from ! (stop !)) (init ! 15 refl (line-typed _ best-is)) $
           assigns ! (of-opd ! (false-lit !)) (from ! (stop !)) (init ! 16 refl (tt, tt)) $
           assigns ! (of-opd ! (lit ! tt)) (from ! (stop !)) (init ! 17 refl (tt, record { fits = lit< tt })) $
@@ -467,7 +467,7 @@ module _ {M : Type 1} (𝓤 : URA M) (H : Heap 𝓤) (A : Atoms 𝓤) (W : Given
         starts l₀ l₁ l₂ l₃ l₄ l₅ l₆ l₇ l₈ l₉ l₁₀ l₁₁ l₁₂ l₁₃ l₁₄ l₁₅ l₁₆ l₁₇ l₁₈ l₁₉ l₂₀ l₂₁ l₂₂ l₂₃ l₂₄ l₂₅ l₂₆)))))))))))))))))))))))))))
 
 module _ {M : Type 1} (𝓤 : URA M) (H : Heap 𝓤) (A : Atoms 𝓤) (W : Given 𝓤 H A) (mem : Memory → SProp 𝓤) (run : Routine → Fun 𝓤) (𝓣 : Tables 𝓤 H) (known-lists-fit : Triple 𝓤 (𝓣 .C #lists-fit) (ListsFit 𝓤 H A mem run))
-    (known-line-at : Triple 𝓤 (𝓣 .C #line-at) (LineAt 𝓤 H A mem run))
+    (known-empty-line : Triple 𝓤 (𝓣 .C #empty-line) (EmptyLine 𝓤 H A mem run))
     (known-bad-at-first : Triple 𝓤 (𝓣 .C #bad-at-first) (BadAtFirst 𝓤 H A mem run))
     (known-with-order : Triple 𝓤 (𝓣 .C #with-order) (WithOrder 𝓤 H A mem run))
     (known-better : Triple 𝓤 (𝓣 .C #better) (Better 𝓤 H A mem run))
@@ -476,7 +476,7 @@ module _ {M : Type 1} (𝓤 : URA M) (H : Heap 𝓤) (A : Atoms 𝓤) (W : Given
   price-walks = walked 𝓤 H A price.ended stayed (price.clauses 𝓤 H A mem run) (WpFn 𝓤 H (𝓣 .C) (𝓣 .Λ) code.function) (λ κs. (slice-vals, (uint-vals w32, (slice-vals, (slice-vals, tt)))))
       (λ κs. (shr-slice-tells (named 0) (κs .0) O.the-row, (uint-tells w32, (mut-slice-tells (named 1) (κs .1 .0) u64, (mut-slice-tells (named 2) (κs .1 .1 .0) u64, tt)))))
       (λ κs qs bounds a g are. via 𝓤 _ (fst∗ 𝓤 _ (emp 𝓤))
-      (walk 𝓤 H A W mem run (κs .0) (κs .1 .0) (κs .1 .1 .0) (qs .0) (qs .1 .0) (qs .1 .1 .0) (a .0) (a .1 .0) (a .1 .1 .0) (a .1 .1 .1 .0) (are .0 .0 .1) (are .1 .0 .1) (are .1 .1 .0 .0 .1) (are .1 .1 .1 .0 .0 .1) 𝓣 known-lists-fit known-line-at known-bad-at-first known-with-order known-better known-answer-of))
+      (walk 𝓤 H A W mem run (κs .0) (κs .1 .0) (κs .1 .1 .0) (qs .0) (qs .1 .0) (qs .1 .1 .0) (a .0) (a .1 .0) (a .1 .1 .0) (a .1 .1 .1 .0) (are .0 .0 .1) (are .1 .0 .1) (are .1 .1 .0 .0 .1) (are .1 .1 .1 .0 .0 .1) 𝓣 known-lists-fit known-empty-line known-bad-at-first known-with-order known-better known-answer-of))
 
   price-meets : Meets 𝓤 H A price.signature (WpFn 𝓤 H (𝓣 .C) (𝓣 .Λ) code.function) (price.spec 𝓤 H A mem run)
   price-meets =
@@ -490,7 +490,7 @@ price-spec 𝓤 H 𝓜 𝓖 𝓡 =
     (tables 𝓤 H 𝓜 𝓡 code.env .C) (tables 𝓤 H 𝓜 𝓡 code.env .Λ) #auction·price code.function (code.unfolded 𝓤 H 𝓜 𝓡)
     (price-meets 𝓤 H (𝓖 .A) (givenOf 𝓤 H 𝓜 𝓖) (𝓜 .mem) (𝓡 .run) (tablesOf 𝓤 H 𝓜 (tables 𝓤 H 𝓜 𝓡 code.env))
     (cited 𝓤 H (ListsFit 𝓤 H (𝓖 .A) (𝓜 .mem) (𝓡 .run)) 𝓜 𝓡 code.env #lists-fit lists-fit-def.routine code.calls-auction-lines·lists-fit (lists-fit-thm.met 𝓤 H 𝓜 𝓖 𝓡))
-    (cited 𝓤 H (LineAt 𝓤 H (𝓖 .A) (𝓜 .mem) (𝓡 .run)) 𝓜 𝓡 code.env #line-at line-at-def.routine code.calls-auction-lines·line-at (line-at-thm.met 𝓤 H 𝓜 𝓖 𝓡))
+    (cited 𝓤 H (EmptyLine 𝓤 H (𝓖 .A) (𝓜 .mem) (𝓡 .run)) 𝓜 𝓡 code.env #empty-line empty-line-def.routine code.calls-auction-lines·empty-line (empty-line-thm.met 𝓤 H 𝓜 𝓖 𝓡))
     (cited 𝓤 H (BadAtFirst 𝓤 H (𝓖 .A) (𝓜 .mem) (𝓡 .run)) 𝓜 𝓡 code.env #bad-at-first bad-at-first-def.routine code.calls-auction-lines·bad-at-first (bad-at-first-thm.met 𝓤 H 𝓜 𝓖 𝓡))
     (cited 𝓤 H (WithOrder 𝓤 H (𝓖 .A) (𝓜 .mem) (𝓡 .run)) 𝓜 𝓡 code.env #with-order with-order-def.routine code.calls-auction-lines·with-order (with-order-thm.met 𝓤 H 𝓜 𝓖 𝓡))
     (cited 𝓤 H (Better 𝓤 H (𝓖 .A) (𝓜 .mem) (𝓡 .run)) 𝓜 𝓡 code.env #better better-def.routine code.calls-auction-lines·better (better-thm.met 𝓤 H 𝓜 𝓖 𝓡))
