@@ -16,7 +16,7 @@ pub struct AuctionOrder {
     /// Of a limit, in satang; `None` for ATO or ATC. A limit of 0 is off the ladder,
     /// and refused.
     pub price: Option<u32>,
-    /// 1 to 20,000,000.
+    /// 1 to [`MAX_VOLUME`](crate::MAX_VOLUME).
     pub volume: u32,
 }
 
@@ -44,7 +44,8 @@ pub enum AuctionAnswer {
     /// At no limit's price is there volume.
     None,
     /// Refused with 14, more than [`MAX_AUCTION_ORDERS`] orders, or with 15, an
-    /// order whose price is off the ladder or whose volume is not 1 to 20,000,000.
+    /// order whose price is off the ladder or whose volume is not 1 to
+    /// [`MAX_VOLUME`](crate::MAX_VOLUME).
     Refused(u8),
 }
 

@@ -2,6 +2,9 @@
 
 use crate::codes::{Board, Channel, OrderType, Session, Side};
 
+/// The most shares in one order.
+pub const MAX_VOLUME: u32 = 20_000_000;
+
 /// One event of a trading day. Customers and securities are numbered from 0;
 /// prices are in satang, and 0 is an absent one. What the gate refuses can be
 /// made too, but for kinds, lengths and codes (other than the lot) that do not

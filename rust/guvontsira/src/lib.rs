@@ -40,7 +40,7 @@ pub use answer::{Answer, Refused, Rule};
 pub use auction::{Auction, AuctionAnswer, AuctionOrder, MAX_AUCTION_ORDERS};
 pub use codes::{Board, Channel, Mark, OrderType, Session, Side};
 pub use desk::{Desk, Row};
-pub use event::Event;
+pub use event::{Event, MAX_VOLUME};
 pub use ladder::{MAX_POSITION, MAX_PRICE, Nearest, nearest, position, price};
 pub use release::{RELEASE, VERSION};
 pub use security::{Figures, Prices, Range, Security};

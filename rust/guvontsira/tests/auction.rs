@@ -1,10 +1,8 @@
 //! The auction: what the request and the documents say of it, through the types, and
 //! what becomes of lent lists.
 
-use guvontsira::{Auction, AuctionAnswer, AuctionOrder, MAX_AUCTION_ORDERS, MAX_PRICE, Side};
-use guvontsira::{MAX_POSITION, library, price};
-
-const MAX_VOLUME: u32 = 20_000_000;
+use guvontsira::{Auction, AuctionAnswer, AuctionOrder, MAX_AUCTION_ORDERS, Side};
+use guvontsira::{MAX_POSITION, MAX_PRICE, MAX_VOLUME, library, price};
 
 /// The orders and the reference of a text.
 fn book(text: &str) -> (Vec<AuctionOrder>, u32) {

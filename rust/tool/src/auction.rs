@@ -6,7 +6,8 @@ use std::io::{self, Write};
 use std::path::Path;
 
 use events::{Book, BookOrder, Price, Wrong};
-use guvontsira::{Auction, AuctionAnswer, AuctionOrder, MAX_AUCTION_ORDERS, MAX_PRICE, Side};
+use guvontsira::{Auction, AuctionAnswer, AuctionOrder, Side};
+use guvontsira::{MAX_AUCTION_ORDERS, MAX_PRICE, MAX_VOLUME};
 
 use crate::failure::Failure;
 use crate::input::bad_line;
@@ -121,6 +122,6 @@ fn reason(order: &BookOrder) -> String {
     match order.price.map(|price| (price, guvontsira::nearest(price))) {
         Some((price, None)) => format!("{} is above {}", Price(price), Price(MAX_PRICE)),
         Some((price, Some(nearest))) if !nearest.legal => standing(price, nearest),
-        _ => format!("volume {} is not 1 to 20000000", order.volume),
+        _ => format!("volume {} is not 1 to {MAX_VOLUME}", order.volume),
     }
 }
