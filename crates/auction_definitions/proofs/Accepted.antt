@@ -12,7 +12,7 @@ use native.Mathlib.Omega.{arith}
 use Rattle.ladder.specs.Ladder.{legal}
 use Rattle.definitions.specs.Codes.{maxVolume, sell}
 use Rattle.definitions.specs.Lists.{any, firstMet}
-use Rattle.definitions.proofs.Tests.{never, or-parts, or-second}
+use Rattle.definitions.proofs.Tests.{and-parts, never, or-parts, or-second}
 use Rattle.auction_definitions.specs.declared.AuctionOrder.{AuctionOrder}
 use Rattle.auction_definitions.specs.declared.Line.{Line}
 use Rattle.auction_definitions.specs.Auction.{badOrder, emptyLine, isAuction, isLimit, listsFit, maxOrders, placeLine, refusal, sumOf, sumsIn}
@@ -47,6 +47,13 @@ sum-bound t (o ∷ os) good =
     go true one rest = omega (arith, one, rest)
     go false one rest = omega (arith, one, rest)
 
+-- the lists fit: how long they are
+pub sizes : (o b s : ℕ) → listsFit o b s ≡ true → (o ≤ maxOrders) × (maxOrders ≤ b) × (maxOrders ≤ s)
+sizes o b s e =
+    let parts = and-parts (leb o maxOrders && leb maxOrders b) (leb maxOrders s) e in
+    let both = and-parts (leb o maxOrders) (leb maxOrders b) (parts .0) in
+    (leb-true o maxOrders (both .0), leb-true maxOrders b (both .1), leb-true maxOrders s (parts .1))
+
 module _ (orders : List AuctionOrder) (buyers sellers : List ℕ) where
   pub none-bad : refusal orders buyers sellers ≡ 0 → any badOrder orders ≡ false
   unfolding refusal firstMet
@@ -57,13 +64,14 @@ module _ (orders : List AuctionOrder) (buyers sellers : List ℕ) where
       go false true e = absurd (omega (arith, e))
       go false false e = refl
 
-  pub lists-fit : refusal orders buyers sellers ≡ 0 → length orders ≤ maxOrders
+  pub lists-fit : refusal orders buyers sellers ≡ 0 → (length orders ≤ maxOrders) × (maxOrders ≤ length buyers) × (maxOrders ≤ length sellers)
   unfolding refusal firstMet
-  lists-fit = go (leb (length orders) maxOrders) refl (leb maxOrders (length buyers)) (leb maxOrders (length sellers)) (any badOrder orders)
+  lists-fit e =
+      sizes (length orders) (length buyers) (length sellers) (go (listsFit (length orders) (length buyers) (length sellers)) (any badOrder orders) e)
     where
-      go : (a : Bool) → leb (length orders) maxOrders ≡ a → (b c d : Bool) → firstMet ((14, not (a && b && c)) ∷ (15, d) ∷ []) ≡ 0 → length orders ≤ maxOrders
-      go true e b c d f = leb-true (length orders) maxOrders e
-      go false e b c d f = absurd (omega (arith, f))
+      go : (a b : Bool) → firstMet ((14, not a) ∷ (15, b) ∷ []) ≡ 0 → a ≡ true
+      go true b e = refl
+      go false b e = absurd (omega (arith, e))
 
 -- read past the list's end
 abbrev pub noOrder : AuctionOrder

@@ -3,6 +3,9 @@
 use mathlib.Core.Bool.{Bool, true, false, cond}
 use mathlib.Core.List.{List, [], _∷_, map}
 use mathlib.Core.Path.{_≡_, refl}
+use Prim.Native.Nat.{ℕ, zero, suc, _<_}
+use native.Mathlib.Nat.{not-suc-le-zero, le-of-suc-le-suc}
+use lib.ListN.{length, getD}
 use Rattle.definitions.specs.Lists.{any, keep}
 use Rattle.definitions.proofs.Tests.{or-parts}
 
@@ -13,6 +16,12 @@ pub data Among {A : Type 0} (x : A) : List A → Type 0 where
 
 pub none-in : {A : Type 0} (x : A) → Among x [] → ⊥
 none-in x = elim [ ]
+
+-- what is read at a place of the list
+pub read : {A : Type 0} (xs : List A) (i : ℕ) (d : A) → i < length xs → Among (getD xs i d) xs
+read [] i d small = absurd (not-suc-le-zero small)
+read (x ∷ xs) zero d small = first
+read (x ∷ xs) (suc i) d small = later (read xs i d (le-of-suc-le-suc small))
 
 module _ {A : Type 0} (t : A → Bool) where
   pub kept : (x : A) (xs : List A) → Among x xs → t x ≡ true → Among x (keep t xs)

@@ -7,5 +7,7 @@ pub mod Projected
 pub mod Accepted
 pub mod AnyOrder
 pub mod Promises
+pub mod VolumePromises
 pub mod Books
 pub mod Cases
+pub mod VolumeCases

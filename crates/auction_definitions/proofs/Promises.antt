@@ -57,7 +57,7 @@ module _ (orders : List AuctionOrder) (reference : ℕ) (buyers sellers : List �
   unfolding auction
   given-at-0 e = rw e
 
-  accepted : (variantOf answer ≡ 2 → ⊥) → refusal orders buyers sellers ≡ 0
+  pub accepted : (variantOf answer ≡ 2 → ⊥) → refusal orders buyers sellers ≡ 0
   accepted = not-refused (eqb (refusal orders buyers sellers) 0) refl
 
   -- "It is shown that no candidate beats the one given": the price given is a candidate with volume above 0 that none beats, and the only one
@@ -77,7 +77,7 @@ module _ (orders : List AuctionOrder) (reference : ℕ) (buyers sellers : List �
   pub without-volume-none : refusal orders buyers sellers ≡ 0 → NoVolume orders → answer ≡ None
   without-volume-none fits without = given-at-0 fits ∙ none-given orders reference without
 
-  refusal-of : {n : ℕ} → answer ≡ Refused n → (refusal orders buyers sellers ≡ n) × (n ≡ 0 → ⊥)
+  pub refusal-of : {n : ℕ} → answer ≡ Refused n → (refusal orders buyers sellers ≡ n) × (n ≡ 0 → ⊥)
   unfolding auction
   refusal-of {n} = go (eqb (refusal orders buyers sellers) 0) refl
     where
@@ -115,7 +115,7 @@ module _ (orders : List AuctionOrder) (reference : ℕ) (buyers sellers : List �
 
   -- a sum of the orders' volumes is at most 1,024 times 20,000,000, and so are both sums of a line and its volume: far below 2 ^ 64
   pub sums-fit : refusal orders buyers sellers ≡ 0 → (t : AuctionOrder → Bool) → sumOf t orders ≤ 20_480_000_000
-  sums-fit fits t = omega (arith, sum-bound t orders (none-bad orders buyers sellers fits), lists-fit orders buyers sellers fits)
+  sums-fit fits t = omega (arith, sum-bound t orders (none-bad orders buyers sellers fits), lists-fit orders buyers sellers fits .0)
 
   -- what the scratch lists hold: at each order's place the sums of its line
   pub buyers-held : refusal orders buyers sellers ≡ 0 → (i : ℕ) → i < length orders → getD (buyersAfter orders buyers sellers) i 0 ≡ placeLine orders (getD orders i noOrder) .buyers

@@ -1,2 +1,3 @@
--- Paper 02, request 5, as definitions.
+-- Paper 02, requests 5 and 6, as definitions.
 pub mod Auction
+pub mod Volumes
