@@ -1,7 +1,7 @@
 -- A call in a walk, where the callee's parameters and result are plain data: nothing is handed over and nothing comes back, so the call's contract is all that is cited.
 --     calls-plain      what the callee asks holds of nothing; once it has returned, its result is the machine value of r₀, the value that its contract says, and what the result's type says of r₀ is in hand.
 --                      The context is as it was, and the operands are read in it
---     calls-lists-fit …        the same of each function that `price` calls, at its contract
+--     calls-lists-fit …        the same of each function of `auction_lines` that `price` and `price_and_volumes` call, at its contract
 -- Assumes `Given`, and that the table of calls is monotone under a frame, as every `Tables` is.
 use mathlib.Core.Bool.{Bool, _&&_}
 use mathlib.Core.Path.{_≡_, refl, sym, ap, subst}
@@ -23,8 +23,8 @@ use types.Kit.{Given, Item, ‵, raw, _⊛_, some, later, ⋆, push, Post, runs,
 use types.Run.{Opds}
 use denote.RattleType.{RattleType}
 use denote.Laws.{Is, Tells, shows}
-use denote.Plain.{uint-makes, bool-makes, bool-tells}
-use denote.Builtin.{bool, u32, usize}
+use denote.Plain.{uint-makes, uint-tells, bool-makes, bool-tells}
+use denote.Builtin.{bool, u32, u64, usize}
 use denote.Struct.Laws as LL
 use denote.Steps.{only, owned, nothing, facts, heard}
 use denote.Triple.Statement.{Contract, Triple}
@@ -34,7 +34,7 @@ use denote.Triple.Clauses.{ensured, lasts}
 use Rattle.auction_definitions.specs.declared.AuctionAnswer.{AuctionAnswer}
 use Rattle.auction_definitions.specs.declared.AuctionOrder.{AuctionOrder}
 use Rattle.auction_definitions.specs.declared.Line.{Line}
-use Rattle.auction_definitions.specs.Auction.{badOrder, emptyLine, listsFit}
+use Rattle.auction_definitions.specs.Auction.{badOrder, emptyLine, listsFit, volumeOf}
 use Rattle.auction_lines.specs.Lines.{answerOf, betterOf, withOrder}
 use Rattle.auction_definitions.proofs.AuctionAnswer as N
 use Rattle.auction_definitions.proofs.AuctionAnswer.Laws as N′
@@ -50,6 +50,8 @@ use Rattle.auction_lines.proofs.bad_at_first as bad-at-first
 use Rattle.auction_lines.proofs.bad_at_first.Symbol.{name as #bad-at-first}
 use Rattle.auction_lines.proofs.with_order as with-order
 use Rattle.auction_lines.proofs.with_order.Symbol.{name as #with-order}
+use Rattle.auction_lines.proofs.volume_of as volume-of
+use Rattle.auction_lines.proofs.volume_of.Symbol.{name as #volume-of}
 use Rattle.auction_lines.proofs.better as better
 use Rattle.auction_lines.proofs.better.Symbol.{name as #better}
 use Rattle.auction_lines.proofs.answer_of as answer-of
@@ -94,6 +96,9 @@ module _ {M : Type 1} (𝓤 : URA M) (H : Heap 𝓤) (A : Atoms 𝓤) (mem : Mem
 
   abbrev pub WithOrder : Contract 𝓤
   WithOrder = tripleOf 𝓤 H A with-order.signature (with-order.spec 𝓤 H A mem run)
+
+  abbrev pub VolumeOf : Contract 𝓤
+  VolumeOf = tripleOf 𝓤 H A volume-of.signature (volume-of.spec 𝓤 H A mem run)
 
   abbrev pub Better : Contract 𝓤
   Better = tripleOf 𝓤 H A better.signature (better.spec 𝓤 H A mem run)
@@ -169,6 +174,23 @@ module _ {M : Type 1} (𝓤 : URA M) (H : Heap 𝓤) (A : Atoms 𝓤) (W : Given
         → Seq K W Γ (runs C Λ E (seq (call #with-order xs d) rest) q)
     calls-with-order t fm known l-is o-is small = calls-plain t fm (WithOrder 𝓤 H A mem run) known to-with-order (goes-with-order l-is o-is small) L.the-row L′.lowered (L′.lowers .val-is) (withOrder l o) said-with-order (λ u. id⊢ 𝓤 _)
         (λ r. exE 𝓤 _ (λ ws. snd∗ 𝓤 (sem 𝓤 H A (lasts with-order.ended tt (l, (o, tt)) ws)) (fact 𝓤 (r ≡ withOrder l o))))
+
+  -- `volume-of`
+  module _ (l : Line) where
+    abbrev to-volume-of : VolumeOf 𝓤 H A mem run .Ghost
+    to-volume-of = ((tt, tt, tt, (l, tt), (L′.lowered l ∷ [], tt)), tt)
+
+    goes-volume-of : Is L.the-row l (L′.lowered l ∷ []) → ent 𝓤 (emp 𝓤) (VolumeOf 𝓤 H A mem run .pre to-volume-of)
+    goes-volume-of l-is = qed W [] ∵ nothing ! $ owned ! L.the-row (Is L.the-row) (LL.makes L.the-type L′.the-plain 𝓤 H A) l _ l-is $ fjoin ! $ nothing ! $ join ! $ frame ! $ done !
+
+    abbrev said-volume-of : ℕ → SProp 𝓤
+    said-volume-of = ensured 𝓤 H A volume-of.ended (volume-of.clauses 𝓤 H A mem run) tt (l, tt) tt
+
+    pub calls-volume-of : {K : Type 0} {Γ : List (Item 𝓤)} {E : Env 𝓤 H} {C : Calls 𝓤 H} {Λ : Loops 𝓤 H} {q : Post 𝓤 H} {xs : List Operand} {d : Place} {rest : Body} → K → FmC 𝓤 H (W .laws) C → Triple 𝓤 (C #volume-of) (VolumeOf 𝓤 H A mem run)
+        → Is L.the-row l (L′.lowered l ∷ []) → Opds K W Γ E xs (L′.lowered l ∷ []) → (Is u64 (volumeOf l) (vint w64 (volumeOf l) ∷ []) → Seq K W Γ (lands C Λ E d (vint w64 (volumeOf l)) rest q))
+        → Seq K W Γ (runs C Λ E (seq (call #volume-of xs d) rest) q)
+    calls-volume-of t fm known l-is = calls-plain t fm (VolumeOf 𝓤 H A mem run) known to-volume-of (goes-volume-of l-is) u64 (vint w64) (uint-tells w64) (volumeOf l) said-volume-of (λ u. id⊢ 𝓤 _)
+        (λ r. exE 𝓤 _ (λ ws. snd∗ 𝓤 (sem 𝓤 H A (lasts volume-of.ended tt (l, tt) ws)) (fact 𝓤 (r ≡ volumeOf l))))
 
   -- `better`
   module _ (p : ℕ) (l : Line) (best : Line) where

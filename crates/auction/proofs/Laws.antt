@@ -1,13 +1,13 @@
--- What holds before a turn of each of the two loops of `price`, and that a turn keeps it. No machine and no memory: the walk in `price/Proof.antt` cites these.
+-- What holds before a turn of each of the two loops of `price` and of `price_and_volumes`, that a turn keeps it, and what each promises from there. No machine and no memory: the walks in `price/Proof.antt` and `volumes/price_and_volumes/Proof.antt` cite these.
 -- Assumes nothing.
 use mathlib.Core.Bool.{Bool, true, false, cond, not, _&&_, _||_}
 use mathlib.Core.List.{List, [], _∷_, _++_, map, map-append}
 use mathlib.Core.Path.{_≡_, refl, sym, _∙_, ap}
-use Prim.Native.Nat.{ℕ, zero, suc, _+_, _*_, _≤_, _<_, _^_}
+use Prim.Native.Nat.{ℕ, zero, suc, _+_, _-_, _*_, _≤_, _<_, _^_}
 use native.Mathlib.Omega.{arith}
 use lib.Dec.{eqb}
-use lib.ListN.{length, getD, set, take, drop, drop-of-length-le, length-map, length-take}
-use lib.Seq.{set-at, append-snoc, take-all}
+use lib.ListN.{length, getD, set, take, drop, drop-of-length-le, length-map, length-set, length-take}
+use lib.Seq.{set-at, append-snoc, take-all, take-at}
 use borrow.Author.Tests.{eq-eqb, eqb-true}
 use Rattle.definitions.specs.Lists.{any, firstMet}
 use Rattle.definitions.proofs.Lists.{any-end, any-next, drop-next, take-next}
@@ -16,19 +16,26 @@ use Rattle.auction_definitions.specs.declared.AuctionOrder.{AuctionOrder}
 use Rattle.auction_definitions.specs.declared.Line.{Line}
 use Rattle.auction_definitions.specs.declared.AuctionAnswer.{AuctionAnswer}
 use Rattle.auction_definitions.specs.declared.AuctionAnswer.the-variants.{Refused}
-use Rattle.auction_definitions.specs.Auction.{auction, badOrder, buyersAfter, buysAt, emptyLine, lineAt, listsFit, placeLine, refusal, sellersAfter, sellsAt, sumOf, sumsIn}
+use Rattle.auction_definitions.specs.Auction.{auction, badOrder, buyersAfter, buysAt, emptyLine, lineAt, listsFit, placeLine, refusal, sellersAfter, sellsAt, sumOf, sumsIn, volumeOf}
+use Rattle.auction_definitions.specs.Volumes.{auctionInOne, placeVolume, volumesAfter, volumesIn}
 use Rattle.auction_definitions.proofs.Accepted.{noOrder}
+use Rattle.auction_definitions.proofs.VolumePromises.{place-volume}
 use Rattle.auction_lines.specs.Lines.{answerOf, betterOf, withOrder}
-use Rattle.auction.specs.Turns.{bestAfter, filledTo, lineAfter}
+use Rattle.auction.specs.Turns.{bestAfter, clearedFrom, filledTo, lineAfter}
 use Rattle.auction.proofs.Chosen.{chosen}
+use Rattle.auction.proofs.Cleared.{zeros}
 
--- before the turn of place i: nothing bad was met in an earlier turn, the best line is that of the places passed, and so are the scratch lists
-pub record Candidates (orders : List AuctionOrder) (reference : ℕ) (buyers sellers : List ℕ) (i : ℕ) (best : Line) (bs ss : List ℕ) : Type 0 where
+-- before the turn of place i: nothing bad was met in an earlier turn, and the best line is that of the places passed
+pub record Candidates (orders : List AuctionOrder) (reference i : ℕ) (best : Line) : Type 0 where
   pub within : i ≤ length orders
   pub none-bad : 0 < i → any badOrder orders ≡ false
   pub best-left : bestAfter reference orders best (drop i orders) ≡ bestAfter reference orders (emptyLine 0) orders
-  pub buyers-so-far : bs ≡ filledTo (λ l. l .buyers) orders i buyers
-  pub sellers-so-far : ss ≡ filledTo (λ l. l .sellers) orders i sellers
+
+-- and a scratch list that held the numbers of start has one of each place's line for the places passed
+pub record Filled (sum : Line → ℕ) (orders : List AuctionOrder) (start : List ℕ) (i : ℕ) : Type 0 where
+  pub list : List ℕ
+  pub so-far : list ≡ filledTo sum orders i start
+  pub long : length list ≡ length start
 
 -- within it, before order j is added: whether a bad one is left is known in the first turn, the line is that of the orders passed, and its sums are far from the
 -- end of 64 bits
@@ -80,37 +87,12 @@ place-line orders o = line-after orders (emptyLine (o .price)) ∙ go (eqb (o .p
     go true none = ap (λ (p : ℕ). lineOf p 0 0) (eqb-true (o .price) 0 none)
     go false limit = same-sums (o .price) (omega arith) (omega arith)
 
--- the sum of the next place goes behind those that are there
-filled-next : (sum : Line → ℕ) (orders : List AuctionOrder) (i : ℕ) (scratch : List ℕ) {line : Line} → i < length orders → i < length scratch
-    → line ≡ placeLine orders (getD orders i noOrder) → set (filledTo sum orders i scratch) i (sum line) ≡ filledTo sum orders (i + 1) scratch
-unfolding filledTo
-filled-next sum orders i scratch {line} small room e =
-    let at : AuctionOrder → ℕ = λ o. sum (placeLine orders o) in
-    ap (λ l. set (map at (take i orders) ++ l) i (sum line)) (drop-next scratch i 0 room)
-    ∙ set-at (map at (take i orders)) (getD scratch i 0) (drop (i + 1) scratch) (sum line) i (length-map (take i orders) at ∙ length-take i orders ∙ omega (arith, small))
-    ∙ sym (append-snoc (map at (take i orders)) (sum line) (drop (i + 1) scratch))
-    ∙ ap (λ l. (map at (take i orders) ++ (sum l ∷ [])) ++ drop (i + 1) scratch) e
-    ∙ ap (λ l. l ++ drop (i + 1) scratch) (sym (ap (map at) (take-next orders i noOrder small) ∙ map-append at (take i orders) (getD orders i noOrder ∷ [])))
-
-filled-whole : (sum : Line → ℕ) (orders : List AuctionOrder) (scratch : List ℕ) → filledTo sum orders (length orders) scratch ≡ sumsIn sum orders scratch
-unfolding filledTo sumsIn
-filled-whole sum orders scratch = ap (λ os. map (λ o. sum (placeLine orders o)) os ++ drop (length orders) scratch) (take-all (length orders) orders (omega arith))
-
-nothing-filled : (sum : Line → ℕ) (orders : List AuctionOrder) (scratch : List ℕ) {i : ℕ} → i ≡ 0 → filledTo sum orders i scratch ≡ scratch
-unfolding filledTo
-nothing-filled sum orders scratch first = rw first
-
 none-bad-all : (orders : List AuctionOrder) → (0 < length orders → any badOrder orders ≡ false) → any badOrder orders ≡ false
 unfolding any
 none-bad-all [] none = refl
 none-bad-all (o ∷ os) none = none (omega arith)
 
-module _ (orders : List AuctionOrder) (reference : ℕ) (buyers sellers : List ℕ) where
-  pub candidates-start : Candidates orders reference buyers sellers 0 (emptyLine 0) buyers sellers
-  unfolding filledTo
-  candidates-start =
-      record { within = omega arith; none-bad = λ h. absurd (omega (arith, h)); best-left = refl; buyers-so-far = refl; sellers-so-far = refl }
-
+module _ (orders : List AuctionOrder) where
   pub orders-start : (i : ℕ) → i < length orders → Orders orders i 0 (emptyLine (getD orders i noOrder .price))
   orders-start i small =
       record { within = omega arith; bad-left = λ _. refl; line-left = place-line orders (getD orders i noOrder); buyers-small = omega arith; sellers-small = omega arith }
@@ -133,30 +115,71 @@ module _ (orders : List AuctionOrder) (reference : ℕ) (buyers sellers : List �
       }
 
   -- every order was added: the line is the place's
-  line-whole : {i : ℕ} {line : Line} → Orders orders i (length orders) line → line ≡ placeLine orders (getD orders i noOrder)
+  pub line-whole : {i : ℕ} {line : Line} → Orders orders i (length orders) line → line ≡ placeLine orders (getD orders i noOrder)
   unfolding lineAfter
   line-whole {line = line} done = sym (ap (lineAfter line) (drop-of-length-le orders {i = length orders} (omega arith))) ∙ done .line-left
+
+  -- the number of the next place goes behind those that are there
+  pub set-next : (sum : Line → ℕ) (start : List ℕ) (i : ℕ) {line : Line} → i < length orders → i < length start
+      → line ≡ placeLine orders (getD orders i noOrder) → set (filledTo sum orders i start) i (sum line) ≡ filledTo sum orders (i + 1) start
+  unfolding filledTo
+  set-next sum start i {line} small room e =
+      let at : AuctionOrder → ℕ = λ o. sum (placeLine orders o) in
+      ap (λ l. set (map at (take i orders) ++ l) i (sum line)) (drop-next start i 0 room)
+      ∙ set-at (map at (take i orders)) (getD start i 0) (drop (i + 1) start) (sum line) i (length-map (take i orders) at ∙ length-take i orders ∙ omega (arith, small))
+      ∙ sym (append-snoc (map at (take i orders)) (sum line) (drop (i + 1) start))
+      ∙ ap (λ l. (map at (take i orders) ++ (sum l ∷ [])) ++ drop (i + 1) start) e
+      ∙ ap (λ l. l ++ drop (i + 1) start) (sym (ap (map at) (take-next orders i noOrder small) ∙ map-append at (take i orders) (getD orders i noOrder ∷ [])))
+
+  module _ (sum : Line → ℕ) (start : List ℕ) where
+    pub none-yet : start ≡ filledTo sum orders 0 start
+    unfolding filledTo
+    none-yet = refl
+
+    abbrev pub filled-start : Filled sum orders start 0
+    filled-start = record { list = start; so-far = none-yet; long = refl }
+
+    -- the number of place i is stored
+    abbrev pub filled-next : {i : ℕ} {line : Line} → Filled sum orders start i → i < length orders → Orders orders i (length orders) line
+        → length orders ≤ length start → Filled sum orders start (i + 1)
+    filled-next {i} {line} at small done fits =
+        record {
+          list = set (at .list) i (sum line);
+          so-far = ap (λ l. set l i (sum line)) (at .so-far) ∙ set-next sum start i small (omega (arith, small, fits)) (line-whole done);
+          long = length-set (at .list) i (sum line) ∙ at .long;
+        }
+
+    filled-whole : {i : ℕ} (at : Filled sum orders start i) → i ≡ length orders → at .list ≡ sumsIn sum orders start
+    unfolding filledTo sumsIn
+    filled-whole at last =
+        at .so-far ∙ ap (λ (k : ℕ). filledTo sum orders k start) last ∙ ap (λ os. map (λ o. sum (placeLine orders o)) os ++ drop (length orders) start) (take-all (length orders) orders (omega arith))
+
+    nothing-filled : {i : ℕ} (at : Filled sum orders start i) → i ≡ 0 → at .list ≡ start
+    unfolding filledTo
+    nothing-filled at first = at .so-far ∙ rw first
+
+module _ (orders : List AuctionOrder) (reference : ℕ) where
+  pub candidates-start : Candidates orders reference 0 (emptyLine 0)
+  candidates-start = record { within = omega arith; none-bad = λ h. absurd (omega (arith, h)); best-left = refl }
 
   none-bad-next : (i : ℕ) {line : Line} → (0 < i → any badOrder orders ≡ false) → Orders orders i (length orders) line → any badOrder orders ≡ false
   none-bad-next zero before done = sym (done .bad-left refl) ∙ any-end badOrder orders (length orders) (omega arith)
   none-bad-next (suc i) before done = before (omega arith)
 
   -- and the next place's turn begins
-  pub candidates-next : {i : ℕ} {best line : Line} {bs ss : List ℕ} → Candidates orders reference buyers sellers i best bs ss → i < length orders
-      → Orders orders i (length orders) line → length orders ≤ length buyers → length orders ≤ length sellers
-      → Candidates orders reference buyers sellers (i + 1) (betterOf reference line best) (set bs i (line .buyers)) (set ss i (line .sellers))
+  pub candidates-next : {i : ℕ} {best line : Line} → Candidates orders reference i best → i < length orders
+      → Orders orders i (length orders) line → Candidates orders reference (i + 1) (betterOf reference line best)
   unfolding bestAfter
-  candidates-next {i} {best} {line} at small done fit-b fit-s =
+  candidates-next {i} {best} {line} at small done =
       record {
         within = omega (arith, small);
         none-bad = λ _. none-bad-next i (at .none-bad) done;
         best-left =
-            ap (λ l. bestAfter reference orders (betterOf reference l best) (drop (i + 1) orders)) (line-whole done)
+            ap (λ l. bestAfter reference orders (betterOf reference l best) (drop (i + 1) orders)) (line-whole orders done)
             ∙ sym (ap (bestAfter reference orders best) (drop-next orders i noOrder small)) ∙ at .best-left;
-        buyers-so-far = ap (λ l. set l i (line .buyers)) (at .buyers-so-far) ∙ filled-next (λ l. l .buyers) orders i buyers small (omega (arith, small, fit-b)) (line-whole done);
-        sellers-so-far = ap (λ l. set l i (line .sellers)) (at .sellers-so-far) ∙ filled-next (λ l. l .sellers) orders i sellers small (omega (arith, small, fit-s)) (line-whole done);
       }
 
+module _ (orders : List AuctionOrder) (reference : ℕ) (buyers sellers : List ℕ) where
   abbrev fit : Bool
   fit = listsFit (length orders) (length buyers) (length sellers)
 
@@ -172,36 +195,91 @@ module _ (orders : List AuctionOrder) (reference : ℕ) (buyers sellers : List �
   unfolding refusal firstMet
   refusal-15 fits some = rw (fits, some)
 
-  -- what is promised, of an answer and the two lists left
-  abbrev pub Promised : AuctionAnswer → List ℕ → List ℕ → Type 0
-  Promised answer bs ss = (answer ≡ auction orders reference buyers sellers) × (bs ≡ buyersAfter orders buyers sellers) × (ss ≡ sellersAfter orders buyers sellers)
-
-  refused : {n : ℕ} → refusal orders buyers sellers ≡ n → eqb n 0 ≡ false → Promised (Refused n) buyers sellers
+  -- a refusal's number is the answer
+  refused : {n : ℕ} → refusal orders buyers sellers ≡ n → eqb n 0 ≡ false → Refused n ≡ auction orders reference buyers sellers
   unfolding auction
-  refused e above = rw (e, above) (refl, refl, refl)
-
-  -- the lists do not fit
-  pub promised-unfit : fit ≡ false → Promised (Refused 14) buyers sellers
-  promised-unfit unfit = refused (refusal-14 unfit) refl
+  refused e above = rw (e, above)
 
   -- every place was passed
-  pub promised : {best : Line} {bs ss : List ℕ} → fit ≡ true
-      → Candidates orders reference buyers sellers (length orders) best bs ss → Promised (answerOf false best) bs ss
-  unfolding auction bestAfter sumsIn filledTo
-  promised {best} fits at = rw (refusal-0 fits (none-bad-all orders (at .none-bad))) (
-    ap (answerOf false) (sym (ap (bestAfter reference orders best) (drop-of-length-le orders {i = length orders} (omega arith))) ∙ at .best-left) ∙ chosen reference orders,
-    at .buyers-so-far ∙ filled-whole (λ l. l .buyers) orders buyers,
-    at .sellers-so-far ∙ filled-whole (λ l. l .sellers) orders sellers,
-  )
+  answered : {i : ℕ} {best : Line} → fit ≡ true → i ≡ length orders → Candidates orders reference i best
+      → (refusal orders buyers sellers ≡ 0) × (answerOf false best ≡ auction orders reference buyers sellers)
+  unfolding auction bestAfter
+  answered {i} {best} fits last at =
+      let none : refusal orders buyers sellers ≡ 0 = refusal-0 fits (none-bad-all orders (λ some. at .none-bad (omega (arith, some, last)))) in
+      let whole : best ≡ bestAfter reference orders (emptyLine 0) orders = sym (ap (bestAfter reference orders best) (drop-of-length-le orders {i = i} (omega (arith, last)))) ∙ at .best-left in
+      (none, ap (answerOf false) whole ∙ chosen reference orders ∙ rw none)
 
   -- a bad order was met, which only the first turn asks about
-  pub promised-bad : {i j : ℕ} {best line : Line} {bs ss : List ℕ} → fit ≡ true
-      → Candidates orders reference buyers sellers i best bs ss → Orders orders i j line → j < length orders
-      → (eqb i 0 && badOrder (getD orders j noOrder)) ≡ true → Promised (answerOf true best) bs ss
-  unfolding answerOf
-  promised-bad {i} {j} fits at on small bad =
+  answered-bad : {i j : ℕ} {line : Line} → fit ≡ true → Orders orders i j line → j < length orders
+      → (eqb i 0 && badOrder (getD orders j noOrder)) ≡ true → (i ≡ 0) × (refusal orders buyers sellers ≡ 15)
+  answered-bad {i} {j} fits on small bad =
       let parts : (eqb i 0 ≡ true) × (badOrder (getD orders j noOrder) ≡ true) = and-parts (eqb i 0) (badOrder (getD orders j noOrder)) bad in
       let first : i ≡ 0 = eqb-true i 0 (parts .0) in
       let some : any badOrder orders ≡ true = sym (on .bad-left first) ∙ any-next badOrder orders j noOrder small ∙ or-first (any badOrder (drop (j + 1) orders)) (parts .1) in
-      let kept : Promised (Refused 15) buyers sellers = refused (refusal-15 fits some) refl in
-      (kept .0, at .buyers-so-far ∙ nothing-filled (λ l. l .buyers) orders buyers first ∙ kept .1, at .sellers-so-far ∙ nothing-filled (λ l. l .sellers) orders sellers first ∙ kept .2)
+      (first, refusal-15 fits some)
+
+  -- what `price` promises, of an answer and the two lists left
+  abbrev pub Promised : AuctionAnswer → List ℕ → List ℕ → Type 0
+  Promised answer bs ss = (answer ≡ auction orders reference buyers sellers) × (bs ≡ buyersAfter orders buyers sellers) × (ss ≡ sellersAfter orders buyers sellers)
+
+  left : {n : ℕ} → refusal orders buyers sellers ≡ n → eqb n 0 ≡ false → (buyers ≡ buyersAfter orders buyers sellers) × (sellers ≡ sellersAfter orders buyers sellers)
+  left e above = rw (e, above) (refl, refl)
+
+  -- the lists do not fit
+  pub promised-unfit : fit ≡ false → Promised (Refused 14) buyers sellers
+  promised-unfit unfit = let kept = left (refusal-14 unfit) refl in (refused (refusal-14 unfit) refl, kept .0, kept .1)
+
+  pub promised : {i : ℕ} {best : Line} → fit ≡ true → i ≡ length orders → Candidates orders reference i best
+      → (bs : Filled (λ l. l .buyers) orders buyers i) (ss : Filled (λ l. l .sellers) orders sellers i) → Promised (answerOf false best) (bs .list) (ss .list)
+  promised fits last at bs ss =
+      let given = answered fits last at in
+      (given .1, filled-whole orders (λ l. l .buyers) buyers bs last ∙ rw (given .0), filled-whole orders (λ l. l .sellers) sellers ss last ∙ rw (given .0))
+
+  pub promised-bad : {i j : ℕ} {line : Line} (best : Line) → fit ≡ true → Orders orders i j line → j < length orders
+      → (eqb i 0 && badOrder (getD orders j noOrder)) ≡ true
+      → (bs : Filled (λ l. l .buyers) orders buyers i) (ss : Filled (λ l. l .sellers) orders sellers i)
+      → Promised (answerOf true best) (bs .list) (ss .list)
+  unfolding answerOf
+  promised-bad best fits on small bad bs ss =
+      let met = answered-bad fits on small bad in
+      let kept = left (met .1) refl in
+      (refused (met .1) refl, nothing-filled orders (λ l. l .buyers) buyers bs (met .0) ∙ kept .0, nothing-filled orders (λ l. l .sellers) sellers ss (met .0) ∙ kept .1)
+
+map-same : (f g : AuctionOrder → ℕ) → ((o : AuctionOrder) → f o ≡ g o) → (os : List AuctionOrder) → map f os ≡ map g os
+map-same f g same [] = refl
+map-same f g same (o ∷ os) = rw (same o, map-same f g same os)
+
+-- what `price_and_volumes` promises, of an answer and the one list left
+module _ (orders : List AuctionOrder) (reference : ℕ) (volumes : List ℕ) where
+  abbrev pub PromisedInOne : AuctionAnswer → List ℕ → Type 0
+  PromisedInOne answer vs = (answer ≡ auctionInOne orders reference volumes) × (vs ≡ volumesAfter orders volumes)
+
+  refused-in-one : {n : ℕ} → refusal orders volumes volumes ≡ n → eqb n 0 ≡ false → PromisedInOne (Refused n) volumes
+  unfolding auctionInOne
+  refused-in-one e above = (refused orders reference volumes volumes e above, rw (e, above))
+
+  pub promised-unfit-in-one : fit orders reference volumes volumes ≡ false → PromisedInOne (Refused 14) volumes
+  promised-unfit-in-one unfit = refused-in-one (refusal-14 orders reference volumes volumes unfit) refl
+
+  pub promised-bad-in-one : {i j : ℕ} {line : Line} → fit orders reference volumes volumes ≡ true → Orders orders i j line → j < length orders
+      → (eqb i 0 && badOrder (getD orders j noOrder)) ≡ true → (vs : Filled volumeOf orders volumes i) → PromisedInOne (Refused 15) (vs .list)
+  promised-bad-in-one fits on small bad vs =
+      let met = answered-bad orders reference volumes volumes fits on small bad in
+      let kept = refused-in-one (met .1) refl in
+      (kept .0, nothing-filled orders volumeOf volumes vs (met .0) ∙ kept .1)
+
+  -- what stands behind the orders is cleared
+  cleared-whole : {i : ℕ} (vs : Filled volumeOf orders volumes i) → i ≡ length orders → clearedFrom (length orders) (vs .list) ≡ volumesIn orders volumes
+  unfolding clearedFrom volumesIn sumsIn
+  cleared-whole vs last =
+      let at : AuctionOrder → ℕ = λ o. volumeOf (placeLine orders o) in
+      ap (λ (k : ℕ). take (length orders) (vs .list) ++ zeros (k - length orders)) (vs .long)
+      ∙ ap (λ (l : List ℕ). take (length orders) l ++ zeros (length volumes - length orders)) (filled-whole orders volumeOf volumes vs last)
+      ∙ ap (λ (l : List ℕ). l ++ zeros (length volumes - length orders)) (take-at (map at orders) (drop (length orders) volumes) (length orders) (length-map orders at) ∙ sym (map-same (placeVolume orders) at (place-volume orders) orders))
+
+  pub promised-in-one : {i : ℕ} {best : Line} → fit orders reference volumes volumes ≡ true → i ≡ length orders → Candidates orders reference i best
+      → (vs : Filled volumeOf orders volumes i) → PromisedInOne (answerOf false best) (clearedFrom (length orders) (vs .list))
+  unfolding auctionInOne
+  promised-in-one fits last at vs =
+      let given = answered orders reference volumes volumes fits last at in
+      (given .1, cleared-whole vs last ∙ rw (given .0))

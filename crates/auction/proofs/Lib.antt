@@ -1,4 +1,5 @@
 pub mod Calls
 pub mod Chosen
+pub mod Cleared
 pub mod Laws
 pub mod States

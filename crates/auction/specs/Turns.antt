@@ -1,7 +1,7 @@
 -- What the two loops have done after some of their turns.
 use mathlib.Core.List.{List, [], _∷_, _++_, map}
-use Prim.Native.Nat.{ℕ}
-use lib.ListN.{take, drop}
+use Prim.Native.Nat.{ℕ, _-_}
+use lib.ListN.{length, take, drop, replicate}
 use Rattle.auction_definitions.specs.declared.AuctionOrder.{AuctionOrder}
 use Rattle.auction_definitions.specs.declared.Line.{Line}
 use Rattle.auction_definitions.specs.Auction.{placeLine}
@@ -20,3 +20,7 @@ bestAfter reference orders best (o ∷ os) = bestAfter reference orders (betterO
 -- a scratch list with the sums of the first places
 unfoldable pub filledTo : (Line → ℕ) → List AuctionOrder → ℕ → List ℕ → List ℕ
 filledTo sum orders i scratch = map (λ o. sum (placeLine orders o)) (take i orders) ++ drop i scratch
+
+-- a list with zeros from a place to its end
+unfoldable pub clearedFrom : ℕ → List ℕ → List ℕ
+clearedFrom place scratch = take place scratch ++ replicate (length scratch - place) 0

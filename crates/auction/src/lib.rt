@@ -1,9 +1,11 @@
-// Paper 02, 5: the price an auction would give. Paper 01, "Code places and their forms": "nested loops over candidates and orders; a bad entry leaves both by a
+// Paper 02, 5 and 6: the price an auction would give, with two scratch lists or with one. Paper 01, "Code places and their forms": "nested loops over candidates and orders; a bad entry leaves both by a
 // label", and "a slice of small order structs read by the auction price, with sums done in covered functions", which are those of `auction_lines`.
 ghost use mathlib.Core.Path.{_≡_};
 ghost use Rattle.auction_definitions.specs.Auction.{auction, buyersAfter, sellersAfter};
 use auction_definitions::AuctionAnswer;
 use auction_definitions::AuctionOrder;
+
+pub mod volumes;
 
 // The first place's turn passes every order, and the first store comes after it: a bad order leaves both scratch lists as they were.
 pub fn price(

@@ -101,7 +101,7 @@ fn apart_by(a: u64, b: u64) -> u64
     if a < b { b - a } else { a - b }
 }
 
-fn volume_of(line: Line) -> u64
+pub fn volume_of(line: Line) -> u64
     ensures { λ r. ⌜ r ≡ volumeOf line ⌝ }
 {
     smaller(line.buyers, line.sellers)
