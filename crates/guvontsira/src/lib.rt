@@ -7,12 +7,13 @@ ghost use lib.ListN.{length, take};
 ghost use Rattle.definitions.specs.Walk.{split};
 ghost use Rattle.histories.specs.Ran.{Ran, cut};
 ghost use Rattle.auction_definitions.specs.Auction.{auction, auctionNumbers, buyersAfter, sellersAfter};
+ghost use Rattle.auction_definitions.specs.Volumes.{auctionInOne, volumesAfter};
 ghost use Rattle.guvontsira.specs.Version.{version};
 use auction_definitions::AuctionNumbers;
 use auction_definitions::AuctionOrder;
 use ladder::Ladder;
 
-const VERSION: u32 = 40_100;
+const VERSION: u32 = 40_200;
 
 #[no_mangle]
 pub extern "C" fn guvontsira_make(words: &mut [u32], customers: u32, securities: u32) -> u32
@@ -115,6 +116,20 @@ pub extern "C" fn guvontsira_auction(
         × (now (sellers .exit) ≡ sellersAfter (now (orders .entry)) (now (buyers .entry)) (now (sellers .entry))) ⌝ }
 {
     auction_lines::numbers_of(auction::price(orders, reference, buyers, sellers))
+}
+
+// The same with one scratch list, which holds volumes afterwards.
+#[no_mangle]
+pub extern "C" fn guvontsira_auction_volumes(
+    orders: &[AuctionOrder],
+    reference: u32,
+    volumes: &mut [u64],
+) -> AuctionNumbers
+    ensures { λ r.
+        ⌜ (r ≡ auctionNumbers (auctionInOne (now (orders .entry)) reference (now (volumes .entry))))
+        × (now (volumes .exit) ≡ volumesAfter (now (orders .entry)) (now (volumes .entry))) ⌝ }
+{
+    auction_lines::numbers_of(auction::volumes::price_and_volumes(orders, reference, volumes))
 }
 
 // A caller whose header has another number was built for another release.
