@@ -1,4 +1,5 @@
-//! The price that an auction of a list of orders would give (paper 02, request 5).
+//! The price that an auction of a list of orders would give (paper 02, requests
+//! 5 and 6).
 
 use std::fmt;
 
@@ -9,7 +10,8 @@ use crate::state::MAX_VOLUME;
 
 /// "at most 1,024" orders are in a list.
 pub const MAX_ORDERS: usize = 1_024;
-/// "Two scratch lists of 1,024 64-bit numbers"; longer ones will do.
+/// "Two scratch lists of 1,024 64-bit numbers", or "only one"; longer ones will
+/// do.
 pub const SCRATCH_PLACES: usize = 1_024;
 
 /// An order of the list, with its numbers as they are lent.
@@ -83,6 +85,13 @@ struct Candidate {
 }
 
 impl Candidate {
+    fn at(price: u32, orders: &[Order]) -> Candidate {
+        Candidate {
+            price,
+            sums: Sums::at(price, orders),
+        }
+    }
+
     /// "The price has the most volume; then the least difference of the sums;
     /// then the least distance to the reference; then it is the higher."
     fn beats(&self, other: &Candidate, reference: u32) -> bool {
@@ -130,7 +139,20 @@ impl fmt::Display for Answer {
     }
 }
 
-/// The request leaves free what the scratch lists hold after a call that is not
+/// "14 if the list is longer or a scratch list shorter, first; 15 for" an order
+/// that is not sound.
+fn check(orders: &[Order], scratch_lists: &[&[u64]]) -> Result<(), Refusal> {
+    let is_short = |scratch: &&[u64]| scratch.len() < SCRATCH_PLACES;
+    if orders.len() > MAX_ORDERS || scratch_lists.iter().any(is_short) {
+        return Err(Refusal::Lists);
+    }
+    if !orders.iter().all(Order::is_sound) {
+        return Err(Refusal::ListedOrder);
+    }
+    Ok(())
+}
+
+/// Request 5 leaves free what the scratch lists hold after a call that is not
 /// refused. Here it is, at each limit's place in the list of orders, the buyers'
 /// and the sellers' sum at its price, 0 at the place of an ATO or ATC, and behind
 /// the last order what they held. "a refusal leaves them equal".
@@ -140,12 +162,8 @@ pub fn auction(
     buyers: &mut [u64],
     sellers: &mut [u64],
 ) -> Answer {
-    let is_short = |scratch: &[u64]| scratch.len() < SCRATCH_PLACES;
-    if orders.len() > MAX_ORDERS || is_short(buyers) || is_short(sellers) {
-        return Refusal::Lists.into();
-    }
-    if !orders.iter().all(Order::is_sound) {
-        return Refusal::ListedOrder.into();
+    if let Err(refusal) = check(orders, &[buyers, sellers]) {
+        return refusal.into();
     }
     let mut best: Option<Candidate> = None;
     for (place, order) in orders.iter().enumerate() {
@@ -154,10 +172,7 @@ pub fn auction(
             sellers[place] = 0;
             continue;
         }
-        let candidate = Candidate {
-            price: order.price,
-            sums: Sums::at(order.price, orders),
-        };
+        let candidate = Candidate::at(order.price, orders);
         buyers[place] = candidate.sums.buyers;
         sellers[place] = candidate.sums.sellers;
         if best.is_none_or(|best| candidate.beats(&best, reference)) {
@@ -169,6 +184,47 @@ pub fn auction(
         Some(Candidate { price, sums }) => Answer::Price {
             price,
             volume: sums.volume(),
+        },
+        None => Answer::None,
+    }
+}
+
+/// Request 6: "The price, the volume, "none" and the refusals must be the ones
+/// given before", by `auction`, with one scratch list.
+///
+/// "After a call not refused it holds, at each limit's place in the order list,
+/// the volume at that price, and 0 elsewhere": at the place of every ATO or ATC,
+/// and at every place behind the last order to the end of the lent list, however
+/// long it is. Each of two limits of one price has the volume at its own place. A
+/// refusal leaves the list equal.
+pub fn auction_volumes(orders: &[Order], reference: u32, volumes: &mut [u64]) -> Answer {
+    if let Err(refusal) = check(orders, &[volumes]) {
+        return refusal.into();
+    }
+    volumes.fill(0);
+    for (volume, order) in volumes.iter_mut().zip(orders) {
+        if order.is_limit() {
+            *volume = Sums::at(order.price, orders).volume();
+        }
+    }
+    let most = volumes.iter().copied().max().unwrap_or(0);
+    let best = orders
+        .iter()
+        .zip(volumes.iter())
+        // Only a limit's place can hold more than 0; where none does, it is "none".
+        .filter(|&(_, &volume)| volume > 0 && volume == most)
+        .map(|(order, _)| Candidate::at(order.price, orders))
+        .reduce(|best, next| {
+            if next.beats(&best, reference) {
+                next
+            } else {
+                best
+            }
+        });
+    match best {
+        Some(Candidate { price, .. }) => Answer::Price {
+            price,
+            volume: most,
         },
         None => Answer::None,
     }

@@ -1,28 +1,10 @@
 //! Request 5 of paper 02: the price an auction would give.
 
+mod common;
+
+use common::books::{ATO, Book, DOCUMENT_002, DOCUMENT_003, UNTOUCHED, buy, sell};
 use second::auction::{Answer, Order, SCRATCH_PLACES, Sums, auction};
 use second::ladder::LAST_PRICE;
-
-/// Stands in the scratch lists before a call.
-const UNTOUCHED: u64 = 7_777;
-
-const ATO: u32 = 0;
-
-fn buy(price: u32, volume: u32) -> Order {
-    Order {
-        side: 0,
-        price,
-        volume,
-    }
-}
-
-fn sell(price: u32, volume: u32) -> Order {
-    Order {
-        side: 1,
-        price,
-        volume,
-    }
-}
 
 /// The answer, after the scratch lists were seen to hold what they should.
 fn answer(orders: &[Order], reference: u32) -> Answer {
@@ -55,66 +37,26 @@ fn in_both_orders(orders: &[Order], reference: u32, expected: Answer) {
     assert_eq!(answer(&reversed, reference), expected, "{reversed:?}");
 }
 
-/// A line of a document's table: price, buyers, sellers, volume.
-type Line = (u32, u64, u64, u64);
-
 /// The price of a document's book, whatever the reference, by its printed table.
-fn document(orders: &[Order], table: &[Line], expected: Answer) {
-    for &(price, buyers, sellers, volume) in table {
-        let sums = Sums::at(price, orders);
+fn document(book: &Book) {
+    for &(price, buyers, sellers, volume) in book.table {
+        let sums = Sums::at(price, book.orders);
         assert_eq!(sums, Sums { buyers, sellers }, "{price}");
         assert_eq!(sums.volume(), volume, "{price}");
     }
     for reference in [0, 48_00, 49_00, 101_00, 102_00, 106_00, u32::MAX] {
-        in_both_orders(orders, reference, expected);
+        in_both_orders(book.orders, reference, price(book.price, book.volume));
     }
 }
 
 #[test]
 fn document_002() {
-    let orders = [
-        buy(ATO, 1_000),
-        buy(103_00, 1_000),
-        buy(103_00, 1_300),
-        buy(102_00, 500),
-        buy(102_00, 1_100),
-        buy(101_00, 800),
-        buy(101_00, 300),
-        sell(102_00, 2_500),
-        sell(102_00, 1_000),
-        sell(103_00, 500),
-        sell(104_00, 1_000),
-        sell(105_00, 1_500),
-        sell(106_00, 500),
-    ];
-    let table = [
-        (101_00, 6_000, 0, 0),
-        (102_00, 4_900, 3_500, 3_500),
-        (103_00, 3_300, 4_000, 3_300),
-        (104_00, 1_000, 5_000, 1_000),
-        (105_00, 1_000, 6_500, 1_000),
-        (106_00, 1_000, 7_000, 1_000),
-    ];
-    document(&orders, &table, price(102_00, 3_500));
+    document(&DOCUMENT_002);
 }
 
-/// Its table has a line for 50 baht, at which there is no order.
 #[test]
 fn document_003() {
-    let orders = [
-        buy(49_00, 900),
-        buy(48_00, 300),
-        sell(49_00, 400),
-        sell(52_00, 4_400),
-        sell(ATO, 600),
-    ];
-    let table = [
-        (48_00, 1_200, 600, 600),
-        (49_00, 900, 1_000, 900),
-        (50_00, 0, 1_000, 0),
-        (52_00, 0, 5_400, 0),
-    ];
-    document(&orders, &table, price(49_00, 900));
+    document(&DOCUMENT_003);
 }
 
 #[test]

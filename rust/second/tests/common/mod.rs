@@ -1,6 +1,8 @@
 //! What the test programs share. Not every one of them uses all of it.
 #![allow(dead_code)]
 
+pub mod books;
+
 use second::answer::{Answer, Rule};
 use second::event::{Figures, Order, Prices, Setup};
 use second::ladder::LAST_PRICE;
