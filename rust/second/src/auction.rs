@@ -38,7 +38,7 @@ impl Order {
 }
 
 /// How many shares buyers and sellers have at a price.
-#[derive(Clone, Copy, Debug, PartialEq, Eq)]
+#[derive(Clone, Copy, Debug, Default, PartialEq, Eq)]
 pub struct Sums {
     pub buyers: u64,
     pub sellers: u64,
@@ -152,29 +152,18 @@ fn check(orders: &[Order], scratch_lists: &[&[u64]]) -> Result<(), Refusal> {
     Ok(())
 }
 
-/// Request 5 leaves free what the scratch lists hold after a call that is not
-/// refused. Here it is, at each limit's place in the list of orders, the buyers'
-/// and the sellers' sum at its price, 0 at the place of an ATO or ATC, and behind
-/// the last order what they held. "a refusal leaves them equal".
-pub fn auction(
-    orders: &[Order],
-    reference: u32,
-    buyers: &mut [u64],
-    sellers: &mut [u64],
-) -> Answer {
-    if let Err(refusal) = check(orders, &[buyers, sellers]) {
-        return refusal.into();
-    }
+/// The answer for a list that `check` let pass. Each order's place in it is handed
+/// to `hold` once, with the sums at a limit's price, and sums of 0 for an ATO or
+/// ATC.
+fn choose(orders: &[Order], reference: u32, mut hold: impl FnMut(usize, Sums)) -> Answer {
     let mut best: Option<Candidate> = None;
     for (place, order) in orders.iter().enumerate() {
         if !order.is_limit() {
-            buyers[place] = 0;
-            sellers[place] = 0;
+            hold(place, Sums::default());
             continue;
         }
         let candidate = Candidate::at(order.price, orders);
-        buyers[place] = candidate.sums.buyers;
-        sellers[place] = candidate.sums.sellers;
+        hold(place, candidate.sums);
         if best.is_none_or(|best| candidate.beats(&best, reference)) {
             best = Some(candidate);
         }
@@ -189,6 +178,25 @@ pub fn auction(
     }
 }
 
+/// Request 5 leaves free what the scratch lists hold after a call that is not
+/// refused. Here it is, at each limit's place in the list of orders, the buyers'
+/// and the sellers' sum at its price, 0 at the place of an ATO or ATC, and behind
+/// the last order what they held. "a refusal leaves them equal".
+pub fn auction(
+    orders: &[Order],
+    reference: u32,
+    buyers: &mut [u64],
+    sellers: &mut [u64],
+) -> Answer {
+    if let Err(refusal) = check(orders, &[buyers, sellers]) {
+        return refusal.into();
+    }
+    choose(orders, reference, |place, sums| {
+        buyers[place] = sums.buyers;
+        sellers[place] = sums.sellers;
+    })
+}
+
 /// Request 6: "The price, the volume, "none" and the refusals must be the ones
 /// given before", by `auction`, with one scratch list.
 ///
@@ -201,31 +209,8 @@ pub fn auction_volumes(orders: &[Order], reference: u32, volumes: &mut [u64]) ->
     if let Err(refusal) = check(orders, &[volumes]) {
         return refusal.into();
     }
-    volumes.fill(0);
-    for (volume, order) in volumes.iter_mut().zip(orders) {
-        if order.is_limit() {
-            *volume = Sums::at(order.price, orders).volume();
-        }
-    }
-    let most = volumes.iter().copied().max().unwrap_or(0);
-    let best = orders
-        .iter()
-        .zip(volumes.iter())
-        // Only a limit's place can hold more than 0; where none does, it is "none".
-        .filter(|&(_, &volume)| volume > 0 && volume == most)
-        .map(|(order, _)| Candidate::at(order.price, orders))
-        .reduce(|best, next| {
-            if next.beats(&best, reference) {
-                next
-            } else {
-                best
-            }
-        });
-    match best {
-        Some(Candidate { price, .. }) => Answer::Price {
-            price,
-            volume: most,
-        },
-        None => Answer::None,
-    }
+    volumes[orders.len()..].fill(0);
+    choose(orders, reference, |place, sums| {
+        volumes[place] = sums.volume();
+    })
 }
