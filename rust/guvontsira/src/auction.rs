@@ -1,53 +1,15 @@
 //! The price that an auction would give.
 
+mod answer;
+mod orders;
+
 use std::fmt;
 
-use crate::codes::Side;
 use crate::library;
-use crate::release::check_linked;
 
-/// The most orders in the list of an auction.
-pub const MAX_AUCTION_ORDERS: usize = 1_024;
-
-/// An order of an auction.
-#[derive(Clone, Copy, Debug, PartialEq, Eq, Hash)]
-pub struct AuctionOrder {
-    pub side: Side,
-    /// Of a limit, in satang; `None` for ATO or ATC. A limit of 0 is off the ladder,
-    /// and refused.
-    pub price: Option<u32>,
-    /// 1 to [`MAX_VOLUME`](crate::MAX_VOLUME).
-    pub volume: u32,
-}
-
-impl AuctionOrder {
-    fn bare(self) -> library::AuctionOrder {
-        library::AuctionOrder {
-            side: self.side.code().into(),
-            price: match self.price {
-                None => 0,
-                // To the library 0 is ATO or ATC: it is told another price that is
-                // off the ladder.
-                Some(0) => u32::MAX,
-                Some(price) => price,
-            },
-            volume: self.volume,
-        }
-    }
-}
-
-/// What an auction would give.
-#[derive(Clone, Copy, Debug, PartialEq, Eq, Hash)]
-pub enum AuctionAnswer {
-    /// A price in satang, and the volume that would be traded at it.
-    Price { price: u32, volume: u64 },
-    /// At no limit's price is there volume.
-    None,
-    /// Refused with 14, more than [`MAX_AUCTION_ORDERS`] orders, or with 15, an
-    /// order whose price is off the ladder or whose volume is not 1 to
-    /// [`MAX_VOLUME`](crate::MAX_VOLUME).
-    Refused(u8),
-}
+pub use answer::AuctionAnswer;
+pub use orders::{AuctionOrder, MAX_AUCTION_ORDERS};
+use orders::{BareOrders, scratch};
 
 /// What the library is lent for an auction, made once and used for every call.
 ///
@@ -91,30 +53,19 @@ pub enum AuctionAnswer {
 /// assert_eq!(auction.sellers(), [1_000, 600, 1_000, 5_400, 0]);
 /// ```
 pub struct Auction {
-    /// One place more than there may be orders, so that the library is told of too
-    /// many.
-    orders: Box<[library::AuctionOrder]>,
+    orders: BareOrders,
     buyers: Box<[u64]>,
     sellers: Box<[u64]>,
-    /// How many places have sums.
-    count: usize,
 }
 
 impl Auction {
     /// # Panics
     /// As [`State::new`](crate::State::new).
     pub fn new() -> Auction {
-        check_linked();
-        let zero = library::AuctionOrder {
-            side: 0,
-            price: 0,
-            volume: 0,
-        };
         Auction {
-            orders: vec![zero; MAX_AUCTION_ORDERS + 1].into(),
-            buyers: vec![0; MAX_AUCTION_ORDERS].into(),
-            sellers: vec![0; MAX_AUCTION_ORDERS].into(),
-            count: 0,
+            orders: BareOrders::new(),
+            buyers: scratch(),
+            sellers: scratch(),
         }
     }
 
@@ -133,34 +84,20 @@ impl Auction {
     /// If the linked archive is of another release and gives a refusal that this
     /// crate does not know.
     pub fn price(&mut self, orders: &[AuctionOrder], reference: u32) -> AuctionAnswer {
-        for (place, order) in self.orders.iter_mut().zip(orders) {
-            *place = order.bare();
-        }
-        let count = orders.len().min(self.orders.len());
-        let numbers = library::auction(
-            &self.orders[..count],
-            reference,
-            &mut self.buyers,
-            &mut self.sellers,
-        );
-        let answer = known(numbers);
-        // After a refusal the lists hold the sums of an earlier call.
-        self.count = match answer {
-            AuctionAnswer::Refused(_) => 0,
-            _ => count,
-        };
-        answer
+        self.orders.price(orders, |orders| {
+            library::auction(orders, reference, &mut self.buyers, &mut self.sellers)
+        })
     }
 
     /// At each order's place, the buyers' sum at its price; 0 for ATO or ATC. They
     /// are those of the last call, and after a refusal there are none.
     pub fn buyers(&self) -> &[u64] {
-        &self.buyers[..self.count]
+        self.orders.left(&self.buyers)
     }
 
     /// The sellers' sums, likewise.
     pub fn sellers(&self) -> &[u64] {
-        &self.sellers[..self.count]
+        self.orders.left(&self.sellers)
     }
 }
 
@@ -176,36 +113,5 @@ impl fmt::Debug for Auction {
             .field("buyers", &self.buyers())
             .field("sellers", &self.sellers())
             .finish_non_exhaustive()
-    }
-}
-
-/// As with answers to events, an unknown refusal is no place to go on from.
-fn known(numbers: library::AuctionNumbers) -> AuctionAnswer {
-    let library::AuctionNumbers {
-        volume,
-        price,
-        refusal,
-    } = numbers;
-    match (refusal, price) {
-        (0, 0) => AuctionAnswer::None,
-        (0, _) => AuctionAnswer::Price { price, volume },
-        (14, _) => AuctionAnswer::Refused(14),
-        (15, _) => AuctionAnswer::Refused(15),
-        _ => panic!("the linked library refuses with {refusal}, which is no auction's refusal"),
-    }
-}
-
-#[cfg(test)]
-mod tests {
-    use super::*;
-
-    #[test]
-    #[should_panic(expected = "refuses with 16")]
-    fn an_unknown_refusal() {
-        known(library::AuctionNumbers {
-            volume: 0,
-            price: 0,
-            refusal: 16,
-        });
     }
 }
