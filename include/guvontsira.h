@@ -4,8 +4,8 @@
  * One state serves one trading day. It is an array of 32-bit words that the
  * caller lends to every call; the library keeps nothing itself and allocates
  * nothing. Events are handed in as bytes, and each gets one answer number. Beside
- * the state, guvontsira_auction gives the price that an auction of a list of orders
- * would give.
+ * the state, guvontsira_auction and guvontsira_auction_volumes give the price that an
+ * auction of a list of orders would give.
  *
  * Promised: every function ends, whatever the words and bytes; it writes only
  * what it was lent for writing; a refusal changes no word (1 to 13) and no place of
@@ -48,7 +48,7 @@ extern "C" {
  * no byte, answer or word differs. guvontsira_version gives the library's; a
  * program stops where the two differ.
  */
-#define GUVONTSIRA_VERSION 40100 /* 4.1.0 */
+#define GUVONTSIRA_VERSION 40200 /* 4.2.0 */
 
 #define GUVONTSIRA_MAX_CUSTOMERS 256
 #define GUVONTSIRA_MAX_SECURITIES 1024
@@ -321,8 +321,8 @@ enum guvontsira_answer {
 #define GUVONTSIRA_LAST_REFUSAL GUVONTSIRA_REFUSED_FIGURES /* of an event */
 
 /*
- * The refusals of guvontsira_auction, the first that is met. They follow on those
- * of events, and no event gets one.
+ * The refusals of guvontsira_auction and of guvontsira_auction_volumes, the first
+ * that is met. They follow on those of events, and no event gets one.
  */
 enum guvontsira_auction_refusal {
     /* More than GUVONTSIRA_MAX_AUCTION_ORDERS orders, or a scratch list with fewer
@@ -438,6 +438,17 @@ struct guvontsira_auction_answer
 guvontsira_auction(const struct guvontsira_auction_order *orders, size_t order_count,
                    uint32_t reference, uint64_t *buyers, size_t buyers_length,
                    uint64_t *sellers, size_t sellers_length);
+
+/*
+ * The same answer with one scratch list, of GUVONTSIRA_MAX_AUCTION_ORDERS places or
+ * more, whatever it holds. The refusals are the same two; 14 asks the count of orders
+ * and the length of this one list. Afterwards volumes[i] is the volume at the price of
+ * orders[i], and 0 where that is ATO or ATC; every place past the last order is 0 too,
+ * to the end of the list, however long it is. After a refusal all are untouched.
+ */
+struct guvontsira_auction_answer
+guvontsira_auction_volumes(const struct guvontsira_auction_order *orders, size_t order_count,
+                           uint32_t reference, uint64_t *volumes, size_t volumes_length);
 
 /* The ladder position of a price in satang; 0 if it is off the ladder. */
 uint32_t guvontsira_position(uint32_t price);

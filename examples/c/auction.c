@@ -1,6 +1,7 @@
 /*
- * The price that an auction of source document 002's book would give, with the sums
- * at the price of each order. Valid in C++ too.
+ * The price that an auction of source document 002's book would give: with two
+ * scratch lists and the sums at the price of each limit, and with one scratch list
+ * and the volume at the place of each order. Valid in C++ too.
  *
  *     cc -std=c11 -Wall -Wextra -Werror -I include examples/c/auction.c \
  *        target/staticlib/libguvontsira.a -o target/c-auction && target/c-auction
@@ -24,6 +25,52 @@ static const struct guvontsira_auction_order orders[] = {
 /* Lent to every call; what they hold before it does not matter. */
 static uint64_t buyers[GUVONTSIRA_MAX_AUCTION_ORDERS];
 static uint64_t sellers[GUVONTSIRA_MAX_AUCTION_ORDERS];
+static uint64_t volumes[GUVONTSIRA_MAX_AUCTION_ORDERS];
+
+static void stop_if_refused(struct guvontsira_auction_answer answer)
+{
+    if (answer.refusal != 0) {
+        printf("refused %u\n", (unsigned)answer.refusal);
+        exit(EXIT_FAILURE);
+    }
+}
+
+static void print_answer(struct guvontsira_auction_answer answer)
+{
+    if (answer.price == 0) {
+        puts("none");
+    } else {
+        printf("price %u volume %llu\n", (unsigned)answer.price,
+               (unsigned long long)answer.volume);
+    }
+}
+
+static void with_sums(void)
+{
+    const struct guvontsira_auction_answer answer =
+        guvontsira_auction(orders, COUNT(orders), LAST_SALE, buyers, COUNT(buyers), sellers,
+                           COUNT(sellers));
+    stop_if_refused(answer);
+    for (size_t i = 0; i < COUNT(orders); i++) {
+        if (orders[i].price != 0) {
+            printf("%u buyers %llu sellers %llu\n", (unsigned)orders[i].price,
+                   (unsigned long long)buyers[i], (unsigned long long)sellers[i]);
+        }
+    }
+    print_answer(answer);
+}
+
+static void with_volumes(void)
+{
+    const struct guvontsira_auction_answer answer = guvontsira_auction_volumes(
+        orders, COUNT(orders), LAST_SALE, volumes, COUNT(volumes));
+    stop_if_refused(answer);
+    for (size_t i = 0; i < COUNT(orders); i++) {
+        printf("place %zu price %u volume %llu\n", i, (unsigned)orders[i].price,
+               (unsigned long long)volumes[i]);
+    }
+    print_answer(answer);
+}
 
 int main(void)
 {
@@ -31,24 +78,7 @@ int main(void)
         fputs("guvontsira.h and libguvontsira.a are of two releases\n", stderr);
         return EXIT_FAILURE;
     }
-    const struct guvontsira_auction_answer answer =
-        guvontsira_auction(orders, COUNT(orders), LAST_SALE, buyers, COUNT(buyers), sellers,
-                           COUNT(sellers));
-    if (answer.refusal != 0) {
-        printf("refused %u\n", (unsigned)answer.refusal);
-        return EXIT_FAILURE;
-    }
-    for (size_t i = 0; i < COUNT(orders); i++) {
-        if (orders[i].price != 0) {
-            printf("%u buyers %llu sellers %llu\n", (unsigned)orders[i].price,
-                   (unsigned long long)buyers[i], (unsigned long long)sellers[i]);
-        }
-    }
-    if (answer.price == 0) {
-        puts("none");
-    } else {
-        printf("price %u volume %llu\n", (unsigned)answer.price,
-               (unsigned long long)answer.volume);
-    }
+    with_sums();
+    with_volumes();
     return EXIT_SUCCESS;
 }

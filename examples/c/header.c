@@ -754,6 +754,49 @@ static const struct guvontsira_auction_order book_003[] = {
 /* One order more than there may be. */
 static struct guvontsira_auction_order orders[MOST_ORDERS + 1];
 static uint64_t buyers[MOST_ORDERS], sellers[MOST_ORDERS];
+/* Longer than it must be: all of it is written. */
+static uint64_t volumes[2 * MOST_ORDERS];
+
+static struct guvontsira_auction_answer
+auction_volumes(const struct guvontsira_auction_order *list, size_t count, uint32_t reference,
+                size_t volumes_length)
+{
+    for (size_t place = 0; place < COUNT(volumes); place++) {
+        volumes[place] = HELD;
+    }
+    return guvontsira_auction_volumes(list, count, reference, volumes, volumes_length);
+}
+
+/* From a place up to another, all volumes are this. */
+static void volumes_are(size_t place, size_t end, uint64_t expected)
+{
+    for (; place < end; place++) {
+        if (volumes[place] != expected) {
+            same("volume at place", place, expected, volumes[place]);
+        }
+    }
+}
+
+/* Request 6: the answer "must be the ones given before"; each volume is the smaller sum. */
+static void same_by_volumes(const struct guvontsira_auction_order *list, size_t count,
+                            uint32_t reference, struct guvontsira_auction_answer before)
+{
+    const struct guvontsira_auction_answer answer =
+        auction_volumes(list, count, reference, COUNT(volumes));
+    if (answer.price != before.price || answer.volume != before.volume
+        || answer.refusal != before.refusal) {
+        same("answer given before", before.price, 1, 0);
+    }
+    if (before.refusal != 0) {
+        volumes_are(0, COUNT(volumes), HELD);
+        return;
+    }
+    for (size_t place = 0; place < count; place++) {
+        const int is_less = buyers[place] < sellers[place];
+        volumes_are(place, place + 1, is_less ? buyers[place] : sellers[place]);
+    }
+    volumes_are(count, COUNT(volumes), 0);
+}
 
 static struct guvontsira_auction_answer auction(const struct guvontsira_auction_order *list,
                                                 size_t count, uint32_t reference)
@@ -761,10 +804,13 @@ static struct guvontsira_auction_answer auction(const struct guvontsira_auction_
     for (size_t place = 0; place < MOST_ORDERS; place++) {
         buyers[place] = sellers[place] = HELD;
     }
-    return guvontsira_auction(list, count, reference, buyers, MOST_ORDERS, sellers, MOST_ORDERS);
+    const struct guvontsira_auction_answer answer = guvontsira_auction(
+        list, count, reference, buyers, MOST_ORDERS, sellers, MOST_ORDERS);
+    same_by_volumes(list, count, reference, answer);
+    return answer;
 }
 
-/* From this place on the scratch lists hold what they held. */
+/* From this place on the two scratch lists hold what they held. */
 static void untouched_from(size_t place)
 {
     for (; place < MOST_ORDERS; place++) {
@@ -781,7 +827,7 @@ static void auction_gives(struct guvontsira_auction_answer answer, uint32_t pric
     same("auction's refusal", 0, 0, answer.refusal);
 }
 
-/* The answer is the refusal of this name alone, and the scratch lists are untouched. */
+/* The answer is the refusal of this name alone, and the two scratch lists are untouched. */
 #define AUCTION_REFUSES(name, answer)                        \
     do {                                                     \
         const struct guvontsira_auction_answer got = answer; \
@@ -791,10 +837,11 @@ static void auction_gives(struct guvontsira_auction_answer answer, uint32_t pric
         untouched_from(0);                                   \
     } while (0)
 
-static void sums_at(size_t place, uint64_t buying, uint64_t selling)
+static void lists_hold(size_t place, uint64_t buying, uint64_t selling, uint64_t volume)
 {
     same("buyers' sum", buying, buying, buyers[place]);
     same("sellers' sum", selling, selling, sellers[place]);
+    same("volume there", volume, volume, volumes[place]);
 }
 
 static void layouts(void)
@@ -809,7 +856,7 @@ static void layouts(void)
     same("refusal at byte", 12, 12, offsetof(struct guvontsira_auction_answer, refusal));
 }
 
-/* Request 5: what the documents print, the four steps, and none. */
+/* Requests 5 and 6: what the documents print, the four steps, and none. */
 static void auctions(void)
 {
     struct guvontsira_auction_order pair[] = {{BUY, 200, 100}, {SELL, 206, 100}, {BUY, 0, 100},
@@ -817,19 +864,19 @@ static void auctions(void)
 
     layouts();
     auction_gives(auction(book_002, COUNT(book_002), 0), 10200, 3500);
-    sums_at(0, 0, 0);
-    sums_at(1, 3300, 4000);
-    sums_at(3, 4900, 3500);
-    sums_at(5, 6000, 0);
-    sums_at(10, 1000, 5000);
-    sums_at(11, 1000, 6500);
-    sums_at(12, 1000, 7000);
+    lists_hold(0, 0, 0, 0);
+    lists_hold(1, 3300, 4000, 3300);
+    lists_hold(3, 4900, 3500, 3500);
+    lists_hold(5, 6000, 0, 0);
+    lists_hold(10, 1000, 5000, 1000);
+    lists_hold(11, 1000, 6500, 1000);
+    lists_hold(12, 1000, 7000, 1000);
     untouched_from(COUNT(book_002));
     auction_gives(auction(book_003, COUNT(book_003), UINT32_MAX), 4900, 900);
-    sums_at(0, 900, 1000);
-    sums_at(1, 1200, 600);
-    sums_at(3, 0, 5400);
-    sums_at(4, 0, 0);
+    lists_hold(0, 900, 1000, 900);
+    lists_hold(1, 1200, 600, 600);
+    lists_hold(3, 0, 5400, 0);
+    lists_hold(4, 0, 0, 0);
     untouched_from(COUNT(book_003));
 
     /* 2.00 has 200 buying and 100 selling, 2.06 the other way round. */
@@ -843,11 +890,11 @@ static void auctions(void)
     auction_gives(auction(orders, 0, 5000), 0, 0);
     untouched_from(0);
     auction_gives(auction(pair, 2, 203), 0, 0);
-    sums_at(0, 100, 0);
-    sums_at(1, 0, 101);
+    lists_hold(0, 100, 0, 0);
+    lists_hold(1, 0, 101, 0);
     auction_gives(auction(pair + 2, 2, 203), 0, 0);
-    sums_at(0, 0, 0);
-    sums_at(1, 0, 0);
+    lists_hold(0, 0, 0, 0);
+    lists_hold(1, 0, 0, 0);
     untouched_from(2);
 }
 
@@ -862,8 +909,8 @@ static void auction_refusals(void)
     }
     *last = good;
     auction_gives(auction(orders, MOST_ORDERS, 0), GUVONTSIRA_MAX_PRICE, GUVONTSIRA_MAX_VOLUME);
-    sums_at(MOST_ORDERS - 1, (uint64_t)GUVONTSIRA_MAX_VOLUME * (MOST_ORDERS - 1),
-            GUVONTSIRA_MAX_VOLUME);
+    lists_hold(MOST_ORDERS - 1, (uint64_t)GUVONTSIRA_MAX_VOLUME * (MOST_ORDERS - 1),
+               GUVONTSIRA_MAX_VOLUME, GUVONTSIRA_MAX_VOLUME);
     MEANS(MAX_AUCTION_ORDERS, GUVONTSIRA_AUCTION_REFUSED_LENGTH,
           auction(orders, MOST_ORDERS + 1, 0).refusal);
 
@@ -889,6 +936,18 @@ static void auction_refusals(void)
     AUCTION_REFUSES(AUCTION_REFUSED_LENGTH,
                     guvontsira_auction(orders, 0, 0, buyers, MOST_ORDERS, sellers,
                                        MOST_ORDERS - 1));
+    AUCTION_REFUSES(AUCTION_REFUSED_LENGTH,
+                    auction_volumes(orders, MOST_ORDERS, 0, MOST_ORDERS - 1));
+    volumes_are(0, COUNT(volumes), HELD);
+    AUCTION_REFUSES(AUCTION_REFUSED_LENGTH, auction_volumes(orders, 0, 0, MOST_ORDERS - 1));
+    volumes_are(0, COUNT(volumes), HELD);
+
+    /* To the end of what was lent, and no farther. */
+    AUCTION_REFUSES(AUCTION_REFUSED_ORDER, auction_volumes(orders, MOST_ORDERS, 0, MOST_ORDERS));
+    volumes_are(0, COUNT(volumes), HELD);
+    ANSWERS(OK, auction_volumes(orders, 1, 0, MOST_ORDERS).refusal);
+    volumes_are(0, MOST_ORDERS, 0);
+    volumes_are(MOST_ORDERS, COUNT(volumes), HELD);
 }
 
 /* Every number that has words; those of the day program's listing. */
@@ -946,6 +1005,7 @@ static void deepest(void)
     guvontsira_floor(words, COUNT(words), 0);
     guvontsira_ceiling(words, COUNT(words), 0);
     guvontsira_auction(book_002, COUNT(book_002), 0, buyers, MOST_ORDERS, sellers, MOST_ORDERS);
+    guvontsira_auction_volumes(book_002, COUNT(book_002), 0, volumes, MOST_ORDERS);
     guvontsira_price(77);
     guvontsira_lower_position(6560);
     guvontsira_upper_position(6560);

@@ -1,5 +1,5 @@
 """Hands the paper's example events, and some of every other kind, to the gate by ctypes, lists the answers and reads a customer's desk;
-then asks for the price of an auction.
+then asks for the price of an auction, with the volume at the price of each of its orders.
 
 The archive as a shared object, from the project's root; then this program:
 
@@ -12,7 +12,7 @@ import pathlib
 import struct
 import sys
 
-VERSION = 40100  # GUVONTSIRA_VERSION of include/guvontsira.h, whose numbers stand here too
+VERSION = 40200  # GUVONTSIRA_VERSION of include/guvontsira.h, whose numbers stand here too
 
 CLOCK, SESSION, SETUP, PRICES, ORDER, CANCEL, MATCH, REST, FIGURES = range(1, 10)
 CLOSED, PRE_OPEN, OPEN, BREAK, PRE_CLOSE = range(5)
@@ -52,14 +52,18 @@ class AuctionAnswer(ctypes.Structure):
     _fields_ = [("volume", ctypes.c_uint64), ("price", ctypes.c_uint32), ("refusal", ctypes.c_uint32)]
 
 
-# Lent to every auction; afterwards the two sums at the price of each order.
-Sums = ctypes.c_uint64 * MAX_AUCTION_ORDERS
+# Lent to every auction, two for the sums at the price of each order, or one for the volumes there.
+Scratch = ctypes.c_uint64 * MAX_AUCTION_ORDERS
 
 
 def load(path):
     library = ctypes.CDLL(path)
     library.guvontsira_version.argtypes = []
     library.guvontsira_version.restype = ctypes.c_uint32
+    # First, since another release need not have the functions below.
+    version = library.guvontsira_version()
+    if version != VERSION:
+        raise SystemExit(f"{path} is release {version}, and this program was written for {VERSION}")
     library.guvontsira_make.argtypes = [Words, ctypes.c_size_t, ctypes.c_uint32, ctypes.c_uint32]
     library.guvontsira_make.restype = ctypes.c_uint32
     # A bytes object lends its own memory, which the gate only reads.
@@ -69,14 +73,12 @@ def load(path):
         function = getattr(library, f"guvontsira_{name}")
         function.argtypes = [Words, ctypes.c_size_t, ctypes.c_uint32]
         function.restype = ctypes.c_uint32
-    sums = ctypes.POINTER(ctypes.c_uint64)
-    library.guvontsira_auction.argtypes = [
-        ctypes.POINTER(AuctionOrder), ctypes.c_size_t, ctypes.c_uint32, sums, ctypes.c_size_t, sums, ctypes.c_size_t
-    ]
+    orders = [ctypes.POINTER(AuctionOrder), ctypes.c_size_t]
+    scratch = [ctypes.POINTER(ctypes.c_uint64), ctypes.c_size_t]
+    library.guvontsira_auction.argtypes = [*orders, ctypes.c_uint32, *scratch, *scratch]
     library.guvontsira_auction.restype = AuctionAnswer
-    version = library.guvontsira_version()
-    if version != VERSION:
-        raise SystemExit(f"{path} is release {version}, and this program was written for {VERSION}")
+    library.guvontsira_auction_volumes.argtypes = [*orders, ctypes.c_uint32, *scratch]
+    library.guvontsira_auction_volumes.restype = AuctionAnswer
     return library
 
 
@@ -118,14 +120,25 @@ class State:
         return self.library.guvontsira_floor(*lent), self.library.guvontsira_ceiling(*lent)
 
 
-def auction(library, orders, reference):
+def given(answer):
     """The price in satang and its volume; 0 and 0 if there is none."""
-    lent = (AuctionOrder * len(orders))(*orders)
-    buyers, sellers = Sums(), Sums()
-    answer = library.guvontsira_auction(lent, len(lent), reference, buyers, len(buyers), sellers, len(sellers))
     if answer.refusal != 0:
         raise ValueError(text(answer.refusal))
     return answer.price, answer.volume
+
+
+def auction(library, orders, reference):
+    lent = (AuctionOrder * len(orders))(*orders)
+    buyers, sellers = Scratch(), Scratch()
+    return given(library.guvontsira_auction(lent, len(lent), reference, buyers, len(buyers), sellers, len(sellers)))
+
+
+def auction_volumes(library, orders, reference):
+    """The same, and the volume at the price of each order; 0 for ATO or ATC."""
+    lent = (AuctionOrder * len(orders))(*orders)
+    volumes = Scratch()
+    answer = library.guvontsira_auction_volumes(lent, len(lent), reference, volumes, len(volumes))
+    return given(answer), volumes[: len(orders)]
 
 
 DAY = [
@@ -174,6 +187,8 @@ def main():
     print(f"security 2: floor {floor / 100:.2f}, ceiling {ceiling / 100:.2f}")
     price, volume = auction(library, BOOK, 0)
     print(f"auction: price {price / 100:.2f}, volume {volume}")
+    (price, volume), volumes = auction_volumes(library, BOOK, 0)
+    print(f"with one scratch list: price {price / 100:.2f}, volume {volume}; at the orders' places {volumes}")
 
 
 if __name__ == "__main__":
