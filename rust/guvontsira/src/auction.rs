@@ -1,7 +1,9 @@
-//! The price that an auction would give.
+//! The price that an auction would give, with two scratch lists; with one in
+//! `volumes`.
 
 mod answer;
 mod orders;
+mod volumes;
 
 use std::fmt;
 
@@ -10,8 +12,10 @@ use crate::library;
 pub use answer::AuctionAnswer;
 pub use orders::{AuctionOrder, MAX_AUCTION_ORDERS};
 use orders::{BareOrders, scratch};
+pub use volumes::AuctionVolumes;
 
-/// What the library is lent for an auction, made once and used for every call.
+/// What the library is lent for an auction, made once and used for every call: two
+/// scratch lists. [`AuctionVolumes`] has one.
 ///
 /// ```
 /// use guvontsira::{Auction, AuctionAnswer, AuctionOrder, Side};

@@ -1,4 +1,4 @@
-//! The library's twelve functions over slices, with its bare numbers. All unsafe
+//! The library's thirteen functions over slices, with its bare numbers. All unsafe
 //! code of the crate is here.
 //!
 //! Every function is total: any words and any bytes may be handed in, and a
@@ -16,7 +16,7 @@ pub struct AuctionOrder {
     pub volume: u32,
 }
 
-/// The answer of [`auction`]: a price above 0 with its volume, or both 0 for none;
+/// The answer of [`auction`] and of [`auction_volumes`]: a price above 0 with its volume, or both 0 for none;
 /// or the number of a refusal, and then both are 0.
 #[repr(C)]
 #[derive(Clone, Copy, Debug, PartialEq, Eq)]
@@ -70,6 +70,14 @@ unsafe extern "C" {
         buyers_length: usize,
         sellers: *mut u64,
         sellers_length: usize,
+    ) -> AuctionNumbers;
+
+    fn guvontsira_auction_volumes(
+        orders: *const AuctionOrder,
+        order_count: usize,
+        reference: u32,
+        volumes: *mut u64,
+        volumes_length: usize,
     ) -> AuctionNumbers;
 
     safe fn guvontsira_position(price: u32) -> u32;
@@ -172,6 +180,27 @@ pub fn auction(
             buyers.len(),
             sellers.as_mut_ptr(),
             sellers.len(),
+        )
+    }
+}
+
+/// The answer of [`auction`], with one scratch list of at least 1,024 places. After a
+/// call that is not refused it holds, at each limit's place in the list of orders, the
+/// volume at its price, and 0 everywhere else, to its end; a refusal leaves it.
+pub fn auction_volumes(
+    orders: &[AuctionOrder],
+    reference: u32,
+    volumes: &mut [u64],
+) -> AuctionNumbers {
+    // SAFETY: pointers and lengths are those of two borrowed slices; the one that
+    // is written overlaps nothing. The structs have C's layout.
+    unsafe {
+        guvontsira_auction_volumes(
+            orders.as_ptr(),
+            orders.len(),
+            reference,
+            volumes.as_mut_ptr(),
+            volumes.len(),
         )
     }
 }

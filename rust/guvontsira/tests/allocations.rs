@@ -6,8 +6,8 @@ use std::hint::black_box;
 use std::sync::atomic::{AtomicUsize, Ordering};
 
 use guvontsira::{
-    Answer, Auction, AuctionAnswer, AuctionOrder, Board, Channel, Event, MAX_AUCTION_ORDERS,
-    OrderType, Session, Side, State, Time,
+    Answer, Auction, AuctionAnswer, AuctionOrder, AuctionVolumes, Board, Channel, Event,
+    MAX_AUCTION_ORDERS, OrderType, Session, Side, State, Time,
 };
 
 struct Counting;
@@ -158,11 +158,15 @@ fn auctions() {
     };
     let orders = [order; MAX_AUCTION_ORDERS + 2];
     let mut auction = Auction::new();
+    let mut volumes = AuctionVolumes::new();
     let asked = least(|| {
         let (longest, longer) = (&orders[..MAX_AUCTION_ORDERS], &orders);
         assert!(auction.price(longest, 0) == AuctionAnswer::None);
         assert!(auction.buyers()[0] == 102_400 && auction.sellers()[0] == 0);
         assert!(auction.price(longer, 0) == AuctionAnswer::Refused(14));
+        assert!(volumes.price(longest, 0) == AuctionAnswer::None);
+        assert!(volumes.volumes()[0] == 0);
+        assert!(volumes.price(longer, 0) == AuctionAnswer::Refused(14));
     });
     assert_eq!(asked, 0);
 }

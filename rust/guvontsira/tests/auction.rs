@@ -1,23 +1,41 @@
-//! The auction: what the request and the documents say of it, through the types, and
-//! what becomes of lent lists.
+//! The auction: what requests 5 and 6 and the documents say of it, through the types,
+//! and what becomes of lent lists.
 
-use guvontsira::{Auction, AuctionAnswer, AuctionOrder, MAX_AUCTION_ORDERS, Side};
+mod common;
+
+use guvontsira::{Auction, AuctionAnswer, AuctionOrder, AuctionVolumes, MAX_AUCTION_ORDERS, Side};
 use guvontsira::{MAX_POSITION, MAX_PRICE, MAX_VOLUME, library, price};
 
-/// The orders and the reference of a text.
-fn book(text: &str) -> (Vec<AuctionOrder>, u32) {
-    let book = events::book(text).unwrap_or_else(|wrong| panic!("{text}: {wrong}"));
-    let order = |order: &events::BookOrder| AuctionOrder {
-        side: Side::from_code(order.side.into()).unwrap(),
-        price: order.price,
-        volume: order.volume,
-    };
-    (book.orders.iter().map(order).collect(), book.reference)
+use common::book;
+
+/// With two scratch lists and with one.
+#[derive(Default)]
+struct Both {
+    sums: Auction,
+    volumes: AuctionVolumes,
+}
+
+impl Both {
+    /// Request 6: the answers "must be the ones given before". The volume at a price is
+    /// the smaller sum.
+    fn price(&mut self, orders: &[AuctionOrder], reference: u32) -> AuctionAnswer {
+        let answer = self.sums.price(orders, reference);
+        assert_eq!(self.volumes.price(orders, reference), answer);
+        let sums = self.sums.buyers().iter().zip(self.sums.sellers());
+        let smaller: Vec<u64> = sums.map(|(buyers, sellers)| *buyers.min(sellers)).collect();
+        assert_eq!(self.volumes.volumes(), smaller);
+        answer
+    }
+
+    fn have_no_places(&self) {
+        assert!(self.sums.buyers().is_empty() && self.sums.sellers().is_empty());
+        assert!(self.volumes.volumes().is_empty());
+    }
 }
 
 fn answer(text: &str) -> AuctionAnswer {
     let (orders, reference) = book(text);
-    Auction::new().price(&orders, reference)
+    Both::default().price(&orders, reference)
 }
 
 fn given(price: u32, volume: u64) -> AuctionAnswer {
@@ -87,40 +105,42 @@ fn bad_orders_in_any_place() {
         at_auction(Side::Buy, 0),
         at_auction(Side::Sell, u32::MAX),
     ];
-    let mut auction = Auction::new();
+    let mut both = Both::default();
     for bad in bad {
         for place in 0..3 {
             let mut orders = [good; 3];
             orders[place] = bad;
-            let answer = auction.price(&orders, 0);
+            let answer = both.price(&orders, 0);
             assert_eq!(answer, AuctionAnswer::Refused(15), "{bad:?}");
-            assert_eq!((auction.buyers(), auction.sellers()), (&[][..], &[][..]));
-            assert_eq!(auction.price(&[good; 3], 0), AuctionAnswer::None);
-            assert_eq!(auction.buyers(), [300; 3]);
+            both.have_no_places();
+            assert_eq!(both.price(&[good; 3], 0), AuctionAnswer::None);
+            assert_eq!(both.sums.buyers(), [300; 3]);
+            assert_eq!(both.volumes.volumes(), [0; 3]);
         }
     }
     let ends = [1, MAX_VOLUME].map(|volume| limit(Side::Sell, MAX_PRICE, volume));
-    assert_eq!(auction.price(&ends, 0), AuctionAnswer::None);
+    assert_eq!(both.price(&ends, 0), AuctionAnswer::None);
 }
 
 #[test]
 fn the_longest_list() {
-    let mut auction = Auction::new();
+    let mut both = Both::default();
     let mut orders = vec![at_auction(Side::Buy, MAX_VOLUME); MAX_AUCTION_ORDERS];
     orders[MAX_AUCTION_ORDERS - 1] = limit(Side::Sell, 1, MAX_VOLUME);
-    assert_eq!(auction.price(&orders, 0), given(1, MAX_VOLUME.into()));
-    assert_eq!(auction.buyers().len(), MAX_AUCTION_ORDERS);
+    assert_eq!(both.price(&orders, 0), given(1, MAX_VOLUME.into()));
+    assert_eq!(both.sums.buyers().len(), MAX_AUCTION_ORDERS);
     let all = u64::from(MAX_VOLUME) * 1_023;
-    assert_eq!(auction.buyers().last(), Some(&all));
+    assert_eq!(both.sums.buyers().last(), Some(&all));
+    assert_eq!(both.volumes.volumes().last(), Some(&MAX_VOLUME.into()));
     // Asked before 15, however long the list is.
     orders[0].volume = 0;
     for longer in [1, 2, 5_000] {
         let mut orders = orders.clone();
         orders.resize(MAX_AUCTION_ORDERS + longer, at_auction(Side::Sell, 1));
-        assert_eq!(auction.price(&orders, 0), AuctionAnswer::Refused(14));
-        assert!(auction.buyers().is_empty() && auction.sellers().is_empty());
+        assert_eq!(both.price(&orders, 0), AuctionAnswer::Refused(14));
+        both.have_no_places();
     }
-    assert_eq!(auction.price(&orders, 0), AuctionAnswer::Refused(15));
+    assert_eq!(both.price(&orders, 0), AuctionAnswer::Refused(15));
 }
 
 /// Random lists beside the request's words, written down once more.
@@ -131,7 +151,7 @@ fn beside_the_request() {
         seed = seed.wrapping_mul(1_664_525).wrapping_add(1_013_904_223);
         (seed >> 8) % below
     };
-    let mut auction = Auction::new();
+    let mut both = Both::default();
     let mut nones = 0;
     for _ in 0..2_000 {
         let near = 1 + random(MAX_POSITION - 6);
@@ -171,8 +191,8 @@ fn beside_the_request() {
             _ => AuctionAnswer::None,
         };
         nones += usize::from(expected == AuctionAnswer::None);
-        assert_eq!(auction.price(&orders, reference), expected, "{orders:?}");
-        let left = auction.buyers().iter().zip(auction.sellers());
+        assert_eq!(both.price(&orders, reference), expected, "{orders:?}");
+        let left = both.sums.buyers().iter().zip(both.sums.sellers());
         let left: Vec<(u64, u64)> = left.map(|(buyers, sellers)| (*buyers, *sellers)).collect();
         let at = |order: &AuctionOrder| order.price.map_or((0, 0), sums);
         assert_eq!(left, orders.iter().map(at).collect::<Vec<_>>());
@@ -180,20 +200,26 @@ fn beside_the_request() {
     assert!((100..1_900).contains(&nones), "{nones}");
 }
 
-/// The bare call: places past the orders, refusals, and longer lists.
-#[test]
-fn lent_lists() {
-    let order = |side, price, volume| library::AuctionOrder {
+fn bare(side: u32, price: u32, volume: u32) -> library::AuctionOrder {
+    library::AuctionOrder {
         side,
         price,
         volume,
-    };
-    let orders = [order(0, 50_00, 200), order(1, 0, 100), order(1, 50_25, 300)];
-    let numbers = |volume, price, refusal| library::AuctionNumbers {
+    }
+}
+
+fn numbers(volume: u64, price: u32, refusal: u32) -> library::AuctionNumbers {
+    library::AuctionNumbers {
         volume,
         price,
         refusal,
-    };
+    }
+}
+
+/// The bare call: places past the orders, refusals, and longer lists.
+#[test]
+fn lent_lists() {
+    let orders = [bare(0, 50_00, 200), bare(1, 0, 100), bare(1, 50_25, 300)];
     let mut lists = [vec![7; 1_024], vec![9; 2_000]];
     let [buyers, sellers] = &mut lists;
     assert_eq!(
@@ -216,9 +242,82 @@ fn lent_lists() {
     for lengths in [[1_023, 2_000], [1_024, 1_023], [0, 0]] {
         assert_eq!(refused(&mut lists, &orders, lengths), numbers(0, 0, 14));
     }
-    let bad = [orders[0], order(2, 50_00, 100)];
+    let bad = [orders[0], bare(2, 50_00, 100)];
     assert_eq!(refused(&mut lists, &bad, [1_024, 1_024]), numbers(0, 0, 15));
-    let bad = [orders[0], order(u32::MAX, 0, 100)];
+    let bad = [orders[0], bare(u32::MAX, 0, 100)];
     assert_eq!(refused(&mut lists, &bad, [1_024, 1_024]), numbers(0, 0, 15));
     assert_eq!(lists, before);
+}
+
+/// Request 6: "at each limit's place in the order list, the volume at that price, and 0
+/// elsewhere"; two orders of one price have one each.
+#[test]
+fn one_lent_list() {
+    let orders = [
+        bare(0, 50_00, 200),
+        bare(1, 0, 100),
+        bare(0, 50_00, 1),
+        bare(1, 50_25, 300),
+    ];
+    for length in [1_024, 1_025, 2_000] {
+        let mut list = vec![7; 2_001];
+        let given = library::auction_volumes(&orders, 0, &mut list[..length]);
+        assert_eq!(given, numbers(100, 50_00, 0));
+        assert_eq!(list[..4], [100, 0, 100, 0]);
+        assert!(list[4..length].iter().all(|volume| *volume == 0));
+        assert!(list[length..].iter().all(|held| *held == 7));
+
+        let given = library::auction_volumes(&[], 0, &mut list[..length]);
+        assert_eq!(given, numbers(0, 0, 0));
+        assert!(list[..length].iter().all(|volume| *volume == 0));
+    }
+}
+
+/// The length of the one list, then the orders; nothing changes.
+#[test]
+fn one_lent_list_refused() {
+    let good = bare(0, 50_00, 200);
+    let most = [good; 1_025];
+    let bad = [
+        bare(2, 50_00, 100),
+        bare(u32::MAX, 0, 100),
+        bare(1, 50_01, 100),
+        bare(1, u32::MAX, 100),
+        bare(1, 0, 0),
+        bare(0, 50_00, MAX_VOLUME + 1),
+    ];
+    let held: Vec<u64> = (1..=2_000).collect();
+    let mut list = held.clone();
+    let mut refused = |orders: &[_], length: usize, number| {
+        let given = library::auction_volumes(orders, 0, &mut list[..length]);
+        assert_eq!(given, numbers(0, 0, number));
+        assert_eq!(list, held);
+    };
+    for length in [0, 1, 1_023] {
+        refused(&[], length, 14);
+        refused(&[good], length, 14);
+        refused(&bad, length, 14);
+    }
+    for length in [1_024, 2_000] {
+        refused(&most, length, 14);
+        for bad in bad {
+            refused(&[good, bad, good], length, 15);
+            let mut many = most;
+            many[1_023] = bad;
+            refused(&many[..1_024], length, 15);
+            refused(&many, length, 14);
+        }
+    }
+}
+
+#[test]
+fn shown() {
+    let mut auction = AuctionVolumes::new();
+    assert_eq!(format!("{auction:?}"), "AuctionVolumes { volumes: [], .. }");
+    auction.price(
+        &[limit(Side::Buy, 50_00, 200), at_auction(Side::Sell, 100)],
+        0,
+    );
+    let shown = "AuctionVolumes { volumes: [100, 0], .. }";
+    assert_eq!(format!("{auction:?}"), shown);
 }
