@@ -1,7 +1,10 @@
 //! An auction's book: a line an order, and one for the reference price.
 
+use std::fmt;
+
 use crate::convert::Wrong;
 use crate::expected::{AnyOf, expected};
+use crate::format::{Code, Price};
 use crate::line_words::LineWords;
 use crate::words::{LIMIT, SIDES, TYPES};
 
@@ -21,13 +24,15 @@ pub struct Book {
     pub orders: Vec<BookOrder>,
 }
 
-/// An order of a book.
+/// An order of a book. `Display` gives its line.
 #[derive(Clone, Copy, Debug, PartialEq, Eq)]
 pub struct BookOrder {
     /// From 1.
     pub line: usize,
     /// The code, 0 buy or 1 sell.
     pub side: u8,
+    /// The code, 0 limit, 1 ATO or 2 ATC.
+    pub order_type: u8,
     /// Of a limit, in satang, legal or not; `None` for ATO or ATC.
     pub price: Option<u32>,
     pub volume: u32,
@@ -73,7 +78,19 @@ fn order(first: &str, line: usize, words: &mut LineWords) -> Result<BookOrder, S
     Ok(BookOrder {
         line,
         side,
+        order_type,
         price,
         volume,
     })
+}
+
+impl fmt::Display for BookOrder {
+    fn fmt(&self, f: &mut fmt::Formatter<'_>) -> fmt::Result {
+        let (side, order_type) = (Code(&SIDES, self.side), Code(&TYPES, self.order_type));
+        write!(f, "{side} {order_type}")?;
+        if let Some(price) = self.price {
+            write!(f, " {}", Price(price))?;
+        }
+        write!(f, " x {}", self.volume)
+    }
 }

@@ -3,10 +3,12 @@
 
 use events::{Book, BookOrder, book};
 
-fn order(line: usize, side: u8, price: Option<u32>, volume: u32) -> BookOrder {
+fn order(line: usize, codes: [u8; 2], price: Option<u32>, volume: u32) -> BookOrder {
+    let [side, order_type] = codes;
     BookOrder {
         line,
         side,
+        order_type,
         price,
         volume,
     }
@@ -24,13 +26,27 @@ buy limit 102.10 x 0
 \tsell limit 42949672.95 x 1\r
 ";
     let orders = vec![
-        order(3, 0, None, 1_000),
-        order(4, 1, None, u32::MAX),
-        order(6, 0, Some(102_10), 0),
-        order(7, 1, Some(u32::MAX), 1),
+        order(3, [0, 1], None, 1_000),
+        order(4, [1, 2], None, u32::MAX),
+        order(6, [0, 0], Some(102_10), 0),
+        order(7, [1, 0], Some(u32::MAX), 1),
     ];
     let reference = 102_25;
     assert_eq!(book(text), Ok(Book { reference, orders }));
+}
+
+#[test]
+fn the_line_of_an_order() {
+    for line in [
+        "buy ato x 1000",
+        "sell atc x 4294967295",
+        "buy limit 102.10 x 0",
+        "sell limit 42949672.95 x 1",
+        "buy limit 0.01 x 1",
+    ] {
+        let orders = book(line).unwrap().orders;
+        assert_eq!(orders[0].to_string(), line);
+    }
 }
 
 #[test]
