@@ -31,6 +31,8 @@ pub enum Command {
     },
     Auction {
         file: PathBuf,
+        /// By order, and not by price.
+        volumes: bool,
     },
     Encode {
         file: PathBuf,
@@ -79,7 +81,7 @@ impl Command {
             "desk" => desk(arguments),
             "security" => security(arguments),
             "ladder" => ladder(arguments),
-            "auction" => file_or_input(arguments).map(|file| Command::Auction { file }),
+            "auction" => auction(arguments),
             "encode" => file_or_input(arguments).map(|file| Command::Encode { file }),
             "decode" => file_or_input(arguments).map(|file| Command::Decode { file }),
             other => Err(wrong(other, &commands)),
@@ -123,6 +125,12 @@ fn ladder(arguments: Arguments) -> Result<Command, Failure> {
         Some(price @ 1..=MAX_PRICE) => Ok(Command::Ladder { price }),
         _ => Err(wrong(&word, wanted)),
     }
+}
+
+fn auction(mut arguments: Arguments) -> Result<Command, Failure> {
+    let volumes = arguments.flag(&["--volumes"]);
+    let file = file_or_input(arguments)?;
+    Ok(Command::Auction { file, volumes })
 }
 
 fn counts(arguments: &mut Arguments) -> Result<Counts, Failure> {

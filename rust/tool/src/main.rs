@@ -71,7 +71,13 @@ fn carry_out(command: Command, out: &mut impl Write) -> Result<(), Failure> {
             security::write(out, &record, state.range(security))?;
         }
         Command::Ladder { price } => ladder::write(out, price)?,
-        Command::Auction { file } => auction::write(out, &file, &input::book(&file)?)?,
+        Command::Auction { file, volumes } => {
+            let book = input::book(&file)?;
+            match volumes {
+                true => auction::volumes::write(out, &file, &book)?,
+                false => auction::prices::write(out, &file, &book)?,
+            }
+        }
         Command::Encode { file } => {
             let text = input::read(&file)?;
             out.write_all(&input::events_of_text(&file, &text)?.concat())?;

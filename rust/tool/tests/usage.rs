@@ -90,6 +90,22 @@ fn usage() {
             r#""--reference": no such option here, or given twice"#,
         ),
         (
+            &["auction", "--volumes", "book.txt", "--volumes"],
+            r#""--volumes": no such option here, or given twice"#,
+        ),
+        (
+            &["auction", "--volumes=yes"],
+            r#""--volumes=yes": no such option here, or given twice"#,
+        ),
+        (
+            &["auction", "--volumes", "a", "b"],
+            r#""b": expected the end of the command"#,
+        ),
+        (
+            &["day", "day.txt", "--volumes"],
+            r#""--volumes": no such option here, or given twice"#,
+        ),
+        (
             &["encode", "a", "b"],
             r#""b": expected the end of the command"#,
         ),
@@ -138,7 +154,7 @@ fn help_and_version() {
         "desk FILE",
         "security FILE",
         "ladder PRICE",
-        "auction [BOOK]",
+        "auction [BOOK] [--volumes]",
         "encode",
         "decode",
     ] {
