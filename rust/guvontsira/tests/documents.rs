@@ -1,12 +1,14 @@
 //! What docs/RULES.md and docs/TEXT.md print is so: their tables are read here
 //! and run.
 
+mod common;
+
 use std::fs;
 
-use guvontsira::{
-    Answer, Auction, AuctionAnswer, AuctionOrder, Nearest, Range, Side, State, nearest, position,
-    price,
-};
+use guvontsira::{Answer, Auction, AuctionAnswer, AuctionVolumes};
+use guvontsira::{Nearest, Range, State, nearest, position, price};
+
+use common::book;
 
 fn document(name: &str) -> String {
     let path = format!("{}/../../docs/{name}", env!("CARGO_MANIFEST_DIR"));
@@ -305,16 +307,13 @@ fn a_desk_full_of_mp_rows() {
     }
 }
 
-/// The answer in the words of the table.
+/// The answer in the words of the table, the same with one scratch list.
 fn auction(orders: &str, reference: &str) -> String {
-    let text = format!("reference {reference}\n{}", orders.replace("; ", "\n"));
-    let book = events::book(&text).unwrap_or_else(|wrong| panic!("{text}: {wrong}"));
-    let orders = book.orders.iter().map(|order| AuctionOrder {
-        side: Side::from_code(order.side.into()).unwrap(),
-        price: order.price,
-        volume: order.volume,
-    });
-    match Auction::new().price(&orders.collect::<Vec<_>>(), book.reference) {
+    let lines = orders.replace("; ", "\n");
+    let (orders, reference) = book(&format!("reference {reference}\n{lines}"));
+    let answer = Auction::new().price(&orders, reference);
+    assert_eq!(AuctionVolumes::new().price(&orders, reference), answer);
+    match answer {
         AuctionAnswer::Price { price, volume } => format!("{} x {volume}", events::Price(price)),
         AuctionAnswer::None => "none".into(),
         AuctionAnswer::Refused(number) => format!("refused {number}"),
@@ -332,6 +331,21 @@ fn the_auctions() {
     assert!(books.count() > 12);
     let refusals = rows.iter().filter_map(|row| row[0].parse().ok());
     assert_eq!(refusals.collect::<Vec<u8>>(), [14, 15]);
+}
+
+#[test]
+fn the_volumes_of_an_auction() {
+    let rules = document("RULES.md");
+    let rows = rows(section(&rules, "The price of an auction"));
+    let is_order = |row: &&Vec<String>| row.len() == 2 && row[0].contains(" x ");
+    let rows = rows.iter().filter(is_order);
+    let lines: Vec<&str> = rows.clone().map(|row| &row[0][..]).collect();
+    let printed: Vec<u64> = rows.map(|row| row[1].parse().unwrap()).collect();
+    let (orders, reference) = book(&lines.join("\n"));
+    assert_eq!(orders.len(), 5);
+    let mut auction = AuctionVolumes::new();
+    auction.price(&orders, reference);
+    assert_eq!(auction.volumes(), printed);
 }
 
 fn back(line: &str) -> String {
