@@ -13,20 +13,22 @@ use Rattle.definitions.specs.Lists.{any, firstMet, keep}
 use Rattle.ladder.specs.Ladder.{legal, bandOfPrice, lastBand}
 use Rattle.auction_definitions.proofs.Books.{atoBothSides, book002, book003, buying, endingIn, evenBook, many, selling}
 
--- the orders, how many places the scratch list has, each holding 7 before, the answer, and what stands from a place on
+-- the orders, the reference, how many places the scratch list has, each holding 7 before, the answer, and what stands from a place on
 pub record Case : Type 0 where
   pub orders : List AuctionOrder
+  pub reference : ℕ
   pub places : ℕ
   pub right : AuctionAnswer
   pub from : ℕ
   pub held : List ℕ
 
+-- reference 0
 abbrev of : List AuctionOrder → ℕ → AuctionAnswer → ℕ → List ℕ → Case
-of orders places right from held = record { orders = orders; places = places; right = right; from = from; held = held }
+of orders places right from held = record { orders = orders; reference = 0; places = places; right = right; from = from; held = held }
 
--- the answer with reference 0, and sixteen numbers, or as many as there are left
+-- the answer, and sixteen numbers, or as many as there are left
 abbrev run : Case → AuctionAnswer × List ℕ
-run c = (auctionInOne (c .orders) 0 (replicate (c .places) 7), take 16 (drop (c .from) (volumesAfter (c .orders) (replicate (c .places) 7))))
+run c = (auctionInOne (c .orders) (c .reference) (replicate (c .places) 7), take 16 (drop (c .from) (volumesAfter (c .orders) (replicate (c .places) 7))))
 
 abbrev sixteen : ℕ → List ℕ
 sixteen n = replicate 16 n
@@ -39,6 +41,7 @@ cases =
     ∷ of book003 1_025 (Price 4_900 900) 1_022 (0 ∷ 0 ∷ 0 ∷ [])
     ∷ of book003 1_023 (Refused 14) 0 (sixteen 7)
     ∷ of evenBook 1_024 (Price 1_000 100) 0 (100 ∷ 100 ∷ replicate 14 0)
+    ∷ record { orders = evenBook; reference = 1_010; places = 1_024; right = Price 1_020 100; from = 0; held = 100 ∷ 100 ∷ replicate 14 0 }
     ∷ of atoBothSides 1_024 (Price 900 400) 0 (0 ∷ 0 ∷ 400 ∷ replicate 13 0)
     ∷ of (buying 1_000 100 ∷ selling 1_010 100 ∷ []) 1_024 None 0 (sixteen 0)
     ∷ of (buying 1_010 1 ∷ selling 1_010 100 ∷ []) 1_024 (Price 1_010 1) 0 (1 ∷ 1 ∷ replicate 14 0)
