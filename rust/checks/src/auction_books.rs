@@ -6,7 +6,7 @@ use second::auction::Order;
 use second::ladder::LAST_PRICE;
 use second::state::MAX_VOLUME;
 
-use crate::auction_comparison::Call;
+use crate::auction_call::Call;
 use crate::prices::{between, middle, step};
 use crate::program::Program;
 use crate::random::Random;

@@ -1,11 +1,11 @@
 //! One call of the auction (paper 02, request 5), by the linked function and by
-//! the second implementation: the answer and every word of both scratch lists.
+//! the second implementation: the answer and every word of the scratch lists.
 
 use guvontsira::library::{self, AuctionNumbers, AuctionOrder};
-use second::auction::{Answer, Order, SCRATCH_PLACES, auction};
+use second::auction::{Answer, Order, auction};
 
+use crate::auction_call::Call;
 use crate::comparison::{Lent, first_unlike};
-use crate::random::Random;
 
 /// Stand on both sides of the orders that are lent: an answer by one of them
 /// would be refusal 15.
@@ -16,62 +16,11 @@ const NO_ORDER: AuctionOrder = AuctionOrder {
 };
 const ORDERS_AROUND: usize = 4;
 
-/// What both are handed.
+/// What both gave and left, with so many scratch lists.
 #[derive(Clone, Debug)]
-pub struct Call {
-    pub orders: Vec<Order>,
-    pub reference: u32,
-    /// The buyers' and the sellers' list before the call.
-    pub scratch: [Vec<u64>; 2],
-}
-
-impl Call {
-    /// Scratch lists of these lengths, with random words in them.
-    pub fn new(random: &mut Random, orders: &[Order], reference: u32, places: [usize; 2]) -> Self {
-        let scratch = places.map(|places| (0..places).map(|_| random.next()).collect());
-        Call {
-            orders: orders.to_vec(),
-            reference,
-            scratch,
-        }
-    }
-
-    /// Scratch lists no longer than they must be.
-    pub fn plain(random: &mut Random, orders: &[Order], reference: u32) -> Self {
-        Call::new(random, orders, reference, [SCRATCH_PLACES; 2])
-    }
-
-    /// Everything that a reader needs to make the call again, but for what the
-    /// scratch lists hold.
-    pub fn describe(&self) -> String {
-        let [buyers, sellers] = self.scratch.each_ref().map(Vec::len);
-        let reference = self.reference;
-        let mut out = format!(
-            "auction, reference {reference}, scratch lists of {buyers} and {sellers} places, {} \
-             orders:\n",
-            self.orders.len()
-        );
-        for equal in self.orders.chunk_by(PartialEq::eq) {
-            let Order {
-                side,
-                price,
-                volume,
-            } = equal[0];
-            out += &format!("  side {side} price {price} volume {volume}");
-            out += &match equal.len() {
-                1 => String::from("\n"),
-                times => format!(", {times} times\n"),
-            };
-        }
-        out
-    }
-}
-
-/// What both gave and left.
-#[derive(Clone, Debug)]
-pub struct Outcome {
+pub struct Outcome<const LISTS: usize> {
     pub answer: Answer,
-    pub scratch: [Vec<u64>; 2],
+    pub scratch: [Vec<u64>; LISTS],
 }
 
 /// The library's numbers for an answer of the second implementation.
@@ -89,7 +38,22 @@ fn numbers(answer: Answer) -> AuctionNumbers {
 }
 
 /// `Err` says how they part.
-pub fn compare(call: &Call) -> Result<Outcome, String> {
+pub fn compare(call: &Call) -> Result<Outcome<2>, String> {
+    beside(
+        call,
+        [("buyers", &call.buyers), ("sellers", &call.sellers)],
+        |orders, reference, [buyers, sellers]| library::auction(orders, reference, buyers, sellers),
+        |orders, reference, [buyers, sellers]| auction(orders, reference, buyers, sellers),
+    )
+}
+
+/// A call with these scratch lists, each with whose it is.
+fn beside<const LISTS: usize>(
+    call: &Call,
+    lists: [(&str, &Vec<u64>); LISTS],
+    gate: fn(&[AuctionOrder], u32, [&mut [u64]; LISTS]) -> AuctionNumbers,
+    second: fn(&[Order], u32, [&mut [u64]; LISTS]) -> Answer,
+) -> Result<Outcome<LISTS>, String> {
     let orders = call.orders.iter().map(|order| AuctionOrder {
         side: order.side,
         price: order.price,
@@ -98,24 +62,26 @@ pub fn compare(call: &Call) -> Result<Outcome, String> {
     let around = [NO_ORDER; ORDERS_AROUND];
     let listed: Vec<AuctionOrder> = around.into_iter().chain(orders).chain(around).collect();
     let lent_orders = listed.clone();
-    let mut lent = call.scratch.each_ref().map(|words| {
+    let mut lent = lists.map(|(_, words)| {
         let mut lent = Lent::default();
         lent.set(words);
         lent
     });
-    let [buyers, sellers] = &mut lent;
-    let gate = library::auction(
+    let gate = gate(
         &lent_orders[ORDERS_AROUND..][..call.orders.len()],
         call.reference,
-        buyers.words_mut(),
-        sellers.words_mut(),
+        lent.each_mut().map(Lent::words_mut),
     );
 
-    let mut scratch = call.scratch.clone();
-    let [buyers, sellers] = &mut scratch;
-    let answer = auction(&call.orders, call.reference, buyers, sellers);
+    let mut scratch = lists.map(|(_, words)| words.clone());
+    let answer = second(
+        &call.orders,
+        call.reference,
+        scratch.each_mut().map(Vec::as_mut_slice),
+    );
 
-    let unlike = unlike(&lent.each_ref().map(Lent::words), &scratch);
+    let names = lists.map(|(name, _)| name);
+    let unlike = unlike(names, &lent.each_ref().map(Lent::words), &scratch);
     if gate != numbers(answer) {
         let words = unlike.unwrap_or("the scratch lists are alike".into());
         return Err(format!(
@@ -133,15 +99,19 @@ pub fn compare(call: &Call) -> Result<Outcome, String> {
     if lent_orders != listed {
         return Err("an order was written".into());
     }
-    if matches!(answer, Answer::Refused(_)) && scratch != call.scratch {
+    let is_equal = scratch.iter().eq(lists.map(|(_, words)| words));
+    if matches!(answer, Answer::Refused(_)) && !is_equal {
         return Err(format!("{answer} changed a scratch list"));
     }
     Ok(Outcome { answer, scratch })
 }
 
 /// The first place where the scratch lists are not alike.
-fn unlike(gate: &[&[u64]; 2], second: &[Vec<u64>; 2]) -> Option<String> {
-    let names = ["buyers", "sellers"];
+fn unlike<const LISTS: usize>(
+    names: [&str; LISTS],
+    gate: &[&[u64]; LISTS],
+    second: &[Vec<u64>; LISTS],
+) -> Option<String> {
     let lists = names.into_iter().zip(gate.iter().zip(second));
     lists.into_iter().find_map(|(name, (gate, second))| {
         let place = first_unlike(gate, second)?;
@@ -177,6 +147,7 @@ fn words_of(numbers: AuctionNumbers) -> String {
 #[cfg(test)]
 mod tests {
     use super::*;
+    use crate::random::Random;
 
     const BUY: Order = Order {
         side: 0,
@@ -204,22 +175,14 @@ mod tests {
 
     #[test]
     fn a_place_that_differs() {
-        let gate = [&[1, 2, 3][..], &[4, 5, 6]];
-        assert_eq!(unlike(&gate, &[vec![1, 2, 3], vec![4, 5, 6]]), None);
+        let unlike = |second: [Vec<u64>; 2]| {
+            let gate = [&[1, 2, 3][..], &[4, 5, 6]];
+            unlike(["buyers", "sellers"], &gate, &second)
+        };
+        assert_eq!(unlike([vec![1, 2, 3], vec![4, 5, 6]]), None);
         assert_eq!(
-            unlike(&gate, &[vec![1, 2, 3], vec![4, 7, 6]]).unwrap(),
+            unlike([vec![1, 2, 3], vec![4, 7, 6]]).unwrap(),
             "place 1 of the sellers' list is 5 in the gate and 7 in the second implementation"
-        );
-    }
-
-    #[test]
-    fn a_book_to_read() {
-        let call = Call::plain(&mut Random::new(1), &[BUY, BUY, SELL], 7);
-        assert_eq!(
-            call.describe(),
-            "auction, reference 7, scratch lists of 1024 and 1024 places, 3 orders:\n  \
-             side 0 price 5000 volume 100, 2 times\n  \
-             side 1 price 5000 volume 100\n"
         );
     }
 }

@@ -6,7 +6,7 @@ use second::auction::{Answer, Order};
 use second::ladder::LAST_PRICE;
 use second::state::MAX_VOLUME;
 
-use crate::auction_comparison::Call;
+use crate::auction_call::Call;
 use crate::auctions::{ATO, POSITIONS, buy, expect, one, price, says, sell};
 use crate::prices::{between, step};
 use crate::program::Program;

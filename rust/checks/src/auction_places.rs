@@ -3,7 +3,8 @@
 
 use second::auction::{Answer, Sums};
 
-use crate::auction_comparison::{Call, Outcome};
+use crate::auction_call::Call;
+use crate::auction_comparison::Outcome;
 
 const REFUSED_14: usize = 0;
 const REFUSED_15: usize = 1;
@@ -38,7 +39,7 @@ struct Candidate {
 }
 
 /// The scratch lists hold the sums at each limit's price.
-fn candidates(call: &Call, outcome: &Outcome) -> Vec<Candidate> {
+fn candidates(call: &Call, outcome: &Outcome<2>) -> Vec<Candidate> {
     let [buyers, sellers] = &outcome.scratch;
     let sums = buyers
         .iter()
@@ -57,7 +58,7 @@ fn candidates(call: &Call, outcome: &Outcome) -> Vec<Candidate> {
     candidates
 }
 
-pub fn auction_place(call: &Call, outcome: &Outcome) -> usize {
+pub fn auction_place(call: &Call, outcome: &Outcome<2>) -> usize {
     match outcome.answer {
         Answer::Refused(14) => REFUSED_14,
         Answer::Refused(_) => REFUSED_15,

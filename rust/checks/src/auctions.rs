@@ -5,7 +5,7 @@
 use second::auction::{Answer, Order};
 use second::ladder;
 
-use crate::auction_comparison::Call;
+use crate::auction_call::Call;
 use crate::auction_lists;
 use crate::prices::step;
 use crate::program::Program;

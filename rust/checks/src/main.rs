@@ -3,6 +3,7 @@
 
 mod arguments;
 mod auction_books;
+mod auction_call;
 mod auction_comparison;
 mod auction_lists;
 mod auction_places;

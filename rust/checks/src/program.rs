@@ -4,7 +4,8 @@ use std::collections::HashMap;
 use std::fmt;
 use std::time::{Duration, Instant};
 
-use crate::auction_comparison::{self, Call, Outcome};
+use crate::auction_call::Call;
+use crate::auction_comparison::{self, Outcome};
 use crate::auction_places::{AuctionTally, auction_place, auction_table};
 use crate::comparison::{Comparison, Difference};
 use crate::places::place;
@@ -145,7 +146,7 @@ impl Program {
 
     /// One call of the auction, by the library and by the second implementation.
     /// `None` where they part, or where the group is given up.
-    pub fn auction(&mut self, name: fmt::Arguments, call: &Call) -> Option<Outcome> {
+    pub fn auction(&mut self, name: fmt::Arguments, call: &Call) -> Option<Outcome<2>> {
         if self.is_given_up(self.group) {
             return None;
         }

@@ -1,0 +1,80 @@
+//! What the linked library and the second implementation are handed for one
+//! auction (paper 02, request 5).
+
+use second::auction::{Order, SCRATCH_PLACES};
+
+use crate::random::Random;
+
+#[derive(Clone, Debug)]
+pub struct Call {
+    pub orders: Vec<Order>,
+    pub reference: u32,
+    /// The scratch lists before the call.
+    pub buyers: Vec<u64>,
+    pub sellers: Vec<u64>,
+}
+
+impl Call {
+    /// Scratch lists of these lengths, the buyers' first, with random words in them.
+    pub fn new(random: &mut Random, orders: &[Order], reference: u32, places: [usize; 2]) -> Self {
+        let [buyers, sellers] = places.map(|places| (0..places).map(|_| random.next()).collect());
+        Call {
+            orders: orders.to_vec(),
+            reference,
+            buyers,
+            sellers,
+        }
+    }
+
+    /// Scratch lists no longer than they must be.
+    pub fn plain(random: &mut Random, orders: &[Order], reference: u32) -> Self {
+        Call::new(random, orders, reference, [SCRATCH_PLACES; 2])
+    }
+
+    /// Everything that a reader needs to make the call again, but for what the
+    /// scratch lists hold.
+    pub fn describe(&self) -> String {
+        let mut out = format!(
+            "auction, reference {}, scratch lists of {} and {} places, {} orders:\n",
+            self.reference,
+            self.buyers.len(),
+            self.sellers.len(),
+            self.orders.len()
+        );
+        for equal in self.orders.chunk_by(PartialEq::eq) {
+            let Order {
+                side,
+                price,
+                volume,
+            } = equal[0];
+            out += &format!("  side {side} price {price} volume {volume}");
+            out += &match equal.len() {
+                1 => String::from("\n"),
+                times => format!(", {times} times\n"),
+            };
+        }
+        out
+    }
+}
+
+#[cfg(test)]
+mod tests {
+    use super::*;
+
+    #[test]
+    fn a_book_to_read() {
+        let buy = Order {
+            side: 0,
+            price: 50_00,
+            volume: 100,
+        };
+        let sell = Order { side: 1, ..buy };
+        let call = Call::plain(&mut Random::new(1), &[buy, buy, sell], 7);
+        assert_eq!(
+            call.describe(),
+            "auction, reference 7, scratch lists of 1024 and 1024 places, 3 orders:\n  \
+             side 0 price 5000 volume 100, 2 times\n  \
+             side 1 price 5000 volume 100\n"
+        );
+    }
+}
