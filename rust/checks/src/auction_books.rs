@@ -1,5 +1,5 @@
-//! Random books for the auction (paper 02, request 5), in several shapes: few
-//! prices or many, crossing or not, with and without ATO, in every band of the
+//! Random books for the auction (paper 02, requests 5 and 6), in several shapes:
+//! few prices or many, crossing or not, with and without ATO, in every band of the
 //! ladder, and a bad order or a short list now and then.
 
 use second::auction::Order;
@@ -115,7 +115,7 @@ pub fn run(program: &mut Program) {
             orders[place] = spoilt(&mut random, orders[place]);
         }
         let reference = reference(&mut random, &orders);
-        let places = [places(&mut random), places(&mut random)];
+        let places = [(); 3].map(|_| places(&mut random));
         book(program, &mut random, &shape, &orders, reference, places);
     }
 }
@@ -127,7 +127,7 @@ fn book(
     shape: &Shape,
     orders: &[Order],
     reference: u32,
-    places: [usize; 2],
+    places: [usize; 3],
 ) {
     let call = Call::new(random, orders, reference, places);
     let mut shuffled = Call::new(random, orders, reference, places);
@@ -138,13 +138,13 @@ fn book(
     let Some(outcome) = program.auction(format_args!("{shape:?}, shuffled"), &shuffled) else {
         return;
     };
-    let [drawn, outcome] = [drawn, outcome].map(|outcome| outcome.answer);
+    let [drawn, outcome] = [drawn, outcome].map(|outcome| outcome.answers());
     program.holds(
         format_args!("{shape:?}, in both orders"),
         drawn == outcome,
         || {
             let books = call.describe() + &shuffled.describe();
-            format!("{books}the first gives {drawn}, the second {outcome}")
+            format!("{books}the first gives {drawn}; the second {outcome}")
         },
     );
 }

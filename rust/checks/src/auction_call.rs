@@ -1,5 +1,5 @@
 //! What the linked library and the second implementation are handed for one
-//! auction (paper 02, request 5).
+//! auction (paper 02, requests 5 and 6).
 
 use second::auction::{Order, SCRATCH_PLACES};
 
@@ -9,36 +9,42 @@ use crate::random::Random;
 pub struct Call {
     pub orders: Vec<Order>,
     pub reference: u32,
-    /// The scratch lists before the call.
+    /// Request 5's two scratch lists before the call.
     pub buyers: Vec<u64>,
     pub sellers: Vec<u64>,
+    /// Request 6's one.
+    pub volumes: Vec<u64>,
 }
 
 impl Call {
-    /// Scratch lists of these lengths, the buyers' first, with random words in them.
-    pub fn new(random: &mut Random, orders: &[Order], reference: u32, places: [usize; 2]) -> Self {
-        let [buyers, sellers] = places.map(|places| (0..places).map(|_| random.next()).collect());
+    /// Scratch lists of these lengths, the buyers', the sellers' and the volumes',
+    /// with random words in them.
+    pub fn new(random: &mut Random, orders: &[Order], reference: u32, places: [usize; 3]) -> Self {
+        let [buyers, sellers, volumes] =
+            places.map(|places| (0..places).map(|_| random.next()).collect());
         Call {
             orders: orders.to_vec(),
             reference,
             buyers,
             sellers,
+            volumes,
         }
     }
 
     /// Scratch lists no longer than they must be.
     pub fn plain(random: &mut Random, orders: &[Order], reference: u32) -> Self {
-        Call::new(random, orders, reference, [SCRATCH_PLACES; 2])
+        Call::new(random, orders, reference, [SCRATCH_PLACES; 3])
     }
 
     /// Everything that a reader needs to make the call again, but for what the
     /// scratch lists hold.
     pub fn describe(&self) -> String {
         let mut out = format!(
-            "auction, reference {}, scratch lists of {} and {} places, {} orders:\n",
+            "auction, reference {}, two scratch lists of {} and {} places or one of {}, {} orders:\n",
             self.reference,
             self.buyers.len(),
             self.sellers.len(),
+            self.volumes.len(),
             self.orders.len()
         );
         for equal in self.orders.chunk_by(PartialEq::eq) {
@@ -72,7 +78,8 @@ mod tests {
         let call = Call::plain(&mut Random::new(1), &[buy, buy, sell], 7);
         assert_eq!(
             call.describe(),
-            "auction, reference 7, scratch lists of 1024 and 1024 places, 3 orders:\n  \
+            "auction, reference 7, two scratch lists of 1024 and 1024 places or one of 1024, 3 \
+             orders:\n  \
              side 0 price 5000 volume 100, 2 times\n  \
              side 1 price 5000 volume 100\n"
         );

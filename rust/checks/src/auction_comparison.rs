@@ -1,8 +1,8 @@
-//! One call of the auction (paper 02, request 5), by the linked function and by
-//! the second implementation: the answer and every word of the scratch lists.
+//! One call of the auction (paper 02, requests 5 and 6), by a linked function and
+//! by the second implementation: the answer and every word of the scratch lists.
 
-use guvontsira::library::{self, AuctionNumbers, AuctionOrder};
-use second::auction::{Answer, Order, auction};
+use guvontsira::library::{AuctionNumbers, AuctionOrder};
+use second::auction::{Answer, Order};
 
 use crate::auction_call::Call;
 use crate::comparison::{Lent, first_unlike};
@@ -18,7 +18,7 @@ const ORDERS_AROUND: usize = 4;
 
 /// What both gave and left, with so many scratch lists.
 #[derive(Clone, Debug)]
-pub struct Outcome<const LISTS: usize> {
+pub struct Left<const LISTS: usize> {
     pub answer: Answer,
     pub scratch: [Vec<u64>; LISTS],
 }
@@ -37,23 +37,14 @@ fn numbers(answer: Answer) -> AuctionNumbers {
     }
 }
 
-/// `Err` says how they part.
-pub fn compare(call: &Call) -> Result<Outcome<2>, String> {
-    beside(
-        call,
-        [("buyers", &call.buyers), ("sellers", &call.sellers)],
-        |orders, reference, [buyers, sellers]| library::auction(orders, reference, buyers, sellers),
-        |orders, reference, [buyers, sellers]| auction(orders, reference, buyers, sellers),
-    )
-}
-
-/// A call with these scratch lists, each with whose it is.
-fn beside<const LISTS: usize>(
+/// A call with these scratch lists, each with what it is for. `Err` says how the
+/// two part.
+pub fn beside<const LISTS: usize>(
     call: &Call,
     lists: [(&str, &Vec<u64>); LISTS],
     gate: fn(&[AuctionOrder], u32, [&mut [u64]; LISTS]) -> AuctionNumbers,
     second: fn(&[Order], u32, [&mut [u64]; LISTS]) -> Answer,
-) -> Result<Outcome<LISTS>, String> {
+) -> Result<Left<LISTS>, String> {
     let orders = call.orders.iter().map(|order| AuctionOrder {
         side: order.side,
         price: order.price,
@@ -103,7 +94,7 @@ fn beside<const LISTS: usize>(
     if matches!(answer, Answer::Refused(_)) && !is_equal {
         return Err(format!("{answer} changed a scratch list"));
     }
-    Ok(Outcome { answer, scratch })
+    Ok(Left { answer, scratch })
 }
 
 /// The first place where the scratch lists are not alike.
@@ -147,31 +138,6 @@ fn words_of(numbers: AuctionNumbers) -> String {
 #[cfg(test)]
 mod tests {
     use super::*;
-    use crate::random::Random;
-
-    const BUY: Order = Order {
-        side: 0,
-        price: 50_00,
-        volume: 100,
-    };
-    const SELL: Order = Order { side: 1, ..BUY };
-
-    #[test]
-    fn alike() {
-        let mut random = Random::new(1);
-        let call = Call::plain(&mut random, &[BUY, SELL, SELL], 0);
-        let outcome = compare(&call).unwrap();
-        let price = Answer::Price {
-            price: 50_00,
-            volume: 100,
-        };
-        assert_eq!(outcome.answer, price);
-        for (list, sum) in outcome.scratch.iter().zip([100, 200]) {
-            assert_eq!(list[..3], [sum; 3]);
-        }
-        let call = Call::new(&mut random, &[BUY], 0, [1_024, 1_023]);
-        assert_eq!(compare(&call).unwrap().answer, Answer::Refused(14));
-    }
 
     #[test]
     fn a_place_that_differs() {

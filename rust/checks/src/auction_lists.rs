@@ -1,12 +1,13 @@
-//! The lists of an auction (paper 02, request 5): every length of each, every sort
-//! of bad order at every place, the last numbers that are not bad, and the largest
-//! sums. Each case says its answer.
+//! The lists of an auction (paper 02, requests 5 and 6): every length of each,
+//! every sort of bad order at every place, the last numbers that are not bad, and
+//! the largest sums. Each case says its answer.
 
 use second::auction::{Answer, Order};
 use second::ladder::LAST_PRICE;
 use second::state::MAX_VOLUME;
 
 use crate::auction_call::Call;
+use crate::auction_outcome::Answers;
 use crate::auctions::{ATO, POSITIONS, buy, expect, one, price, says, sell};
 use crate::prices::{between, step};
 use crate::program::Program;
@@ -52,9 +53,15 @@ fn lengths(program: &mut Program, random: &mut Random) {
             (bad_at_last, turned_away),
             (without_limit, Answer::None),
         ] {
-            for places in pairs(PLACES) {
-                let is_14 = length > 1_024 || places.iter().any(|&places| places < 1_024);
-                let expected = if is_14 { Answer::Refused(14) } else { answer };
+            for places in triples(PLACES) {
+                let of = |places: &[usize]| {
+                    let is_14 = length > 1_024 || places.iter().any(|&places| places < 1_024);
+                    if is_14 { Answer::Refused(14) } else { answer }
+                };
+                let expected = Answers {
+                    with_two: of(&places[..2]),
+                    with_one: of(&places[2..]),
+                };
                 let call = Call::new(random, &orders, 0, places);
                 let name = format!("{length} orders, {places:?} places");
                 says(program, &name, &call, expected);
@@ -64,9 +71,10 @@ fn lengths(program: &mut Program, random: &mut Random) {
 }
 
 /// Each beside each.
-fn pairs<const N: usize>(numbers: [usize; N]) -> impl Iterator<Item = [usize; 2]> {
-    let beside = move |one| numbers.map(move |other| [one, other]);
-    numbers.into_iter().flat_map(beside)
+fn triples<const N: usize>(numbers: [usize; N]) -> impl Iterator<Item = [usize; 3]> {
+    let pairs = move |one| numbers.map(move |other| [one, other]);
+    let beside = move |[one, other]: [usize; 2]| numbers.map(move |third| [one, other, third]);
+    numbers.into_iter().flat_map(pairs).flat_map(beside)
 }
 
 /// Every sort: a wrong side, price or volume, in a limit and in an ATO.
@@ -113,7 +121,7 @@ fn bad_orders(program: &mut Program, random: &mut Random) {
             }
             // 14 comes first.
             let orders = list_with(3, filler, 1, bad);
-            for places in [[1_023, 1_024], [1_024, 1_023], [0, 0]] {
+            for places in [[1_023, 1_024, 1_023], [1_024, 1_023, 1_023], [0; 3]] {
                 let call = Call::new(random, &orders, 50_00, places);
                 let name = format!("{bad:?}, {places:?} places");
                 says(program, &name, &call, Answer::Refused(14));

@@ -4,7 +4,7 @@
 use second::auction::{Answer, Sums};
 
 use crate::auction_call::Call;
-use crate::auction_comparison::Outcome;
+use crate::auction_comparison::Left;
 
 const REFUSED_14: usize = 0;
 const REFUSED_15: usize = 1;
@@ -39,8 +39,8 @@ struct Candidate {
 }
 
 /// The scratch lists hold the sums at each limit's price.
-fn candidates(call: &Call, outcome: &Outcome<2>) -> Vec<Candidate> {
-    let [buyers, sellers] = &outcome.scratch;
+fn candidates(call: &Call, left: &Left<2>) -> Vec<Candidate> {
+    let [buyers, sellers] = &left.scratch;
     let sums = buyers
         .iter()
         .zip(sellers)
@@ -58,13 +58,13 @@ fn candidates(call: &Call, outcome: &Outcome<2>) -> Vec<Candidate> {
     candidates
 }
 
-pub fn auction_place(call: &Call, outcome: &Outcome<2>) -> usize {
-    match outcome.answer {
+pub fn auction_place(call: &Call, left: &Left<2>) -> usize {
+    match left.answer {
         Answer::Refused(14) => REFUSED_14,
         Answer::Refused(_) => REFUSED_15,
-        Answer::None if candidates(call, outcome).is_empty() => NO_LIMIT,
+        Answer::None if candidates(call, left).is_empty() => NO_LIMIT,
         Answer::None => NO_VOLUME,
-        Answer::Price { .. } => of_price(candidates(call, outcome), call.reference),
+        Answer::Price { .. } => of_price(candidates(call, left), call.reference),
     }
 }
 
@@ -135,7 +135,7 @@ mod tests {
     use second::auction::Order;
 
     use super::*;
-    use crate::auction_comparison::compare;
+    use crate::auction_outcome::compare;
     use crate::random::Random;
 
     /// Where a book of these sides, prices and volumes is counted.
@@ -147,7 +147,7 @@ mod tests {
         });
         let orders: Vec<Order> = orders.collect();
         let call = Call::plain(&mut Random::new(1), &orders, reference);
-        WORDS[auction_place(&call, &compare(&call).unwrap())]
+        WORDS[auction_place(&call, &compare(&call).unwrap().sums)]
     }
 
     #[test]

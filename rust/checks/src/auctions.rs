@@ -1,12 +1,13 @@
-//! The price an auction would give (paper 02, request 5): the books of the source
-//! documents, ties at each of the four steps, references on both sides of each
-//! candidate, and lists without a price. Each case says its answer.
+//! The price an auction would give (paper 02, requests 5 and 6): the books of the
+//! source documents, ties at each of the four steps, references on both sides of
+//! each candidate, and lists without a price. Each case says its answer.
 
 use second::auction::{Answer, Order};
 use second::ladder;
 
 use crate::auction_call::Call;
 use crate::auction_lists;
+use crate::auction_outcome::Answers;
 use crate::prices::step;
 use crate::program::Program;
 use crate::random::Random;
@@ -87,15 +88,15 @@ pub fn one(
     says(program, name, &call, expected);
 }
 
-pub fn says(program: &mut Program, name: &str, call: &Call, expected: Answer) {
+pub fn says(program: &mut Program, name: &str, call: &Call, expected: impl Into<Answers>) {
     let Some(outcome) = program.auction(format_args!("{name}"), call) else {
         return;
     };
-    let answer = outcome.answer;
+    let [answers, expected] = [outcome.answers(), expected.into()];
     program.holds(
         format_args!("{name}, the answer"),
-        answer == expected,
-        || call.describe() + &format!("both say {answer}, the case says {expected}"),
+        answers == expected,
+        || call.describe() + &format!("both say {answers}; the case says {expected}"),
     );
 }
 

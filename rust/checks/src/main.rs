@@ -6,6 +6,7 @@ mod auction_books;
 mod auction_call;
 mod auction_comparison;
 mod auction_lists;
+mod auction_outcome;
 mod auction_places;
 mod auctions;
 mod bases;

@@ -5,7 +5,7 @@ use std::fmt;
 use std::time::{Duration, Instant};
 
 use crate::auction_call::Call;
-use crate::auction_comparison::{self, Outcome};
+use crate::auction_outcome::{Outcome, compare};
 use crate::auction_places::{AuctionTally, auction_place, auction_table};
 use crate::comparison::{Comparison, Difference};
 use crate::places::place;
@@ -144,13 +144,14 @@ impl Program {
         self.pass();
     }
 
-    /// One call of the auction, by the library and by the second implementation.
-    /// `None` where they part, or where the group is given up.
-    pub fn auction(&mut self, name: fmt::Arguments, call: &Call) -> Option<Outcome<2>> {
+    /// An auction with two scratch lists and with one, by the library and by the
+    /// second implementation. `None` where they part, or where the group is given
+    /// up.
+    pub fn auction(&mut self, name: fmt::Arguments, call: &Call) -> Option<Outcome> {
         if self.is_given_up(self.group) {
             return None;
         }
-        let Ok(outcome) = auction_comparison::compare(call) else {
+        let Ok(outcome) = compare(call) else {
             self.fail_auction(name, call);
             return None;
         };
@@ -158,7 +159,7 @@ impl Program {
             None => &mut self.auctions,
             Some(_) => &mut self.auction_books,
         };
-        tally.add(auction_place(call, &outcome));
+        tally.add(auction_place(call, &outcome.sums));
         self.pass();
         Some(outcome)
     }
@@ -169,9 +170,9 @@ impl Program {
             ..call.clone()
         };
         let short = with(&shrink(&call.orders, |orders| {
-            auction_comparison::compare(&with(orders)).is_err()
+            compare(&with(orders)).is_err()
         }));
-        let difference = auction_comparison::compare(&short).err();
+        let difference = compare(&short).err();
         let difference = difference.unwrap_or("a second time they do not part".into());
         self.fail(name, &(short.describe() + &difference));
     }
