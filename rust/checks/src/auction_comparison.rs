@@ -23,6 +23,12 @@ pub struct Left<const LISTS: usize> {
     pub scratch: [Vec<u64>; LISTS],
 }
 
+impl<const LISTS: usize> Left<LISTS> {
+    pub fn is_refused(&self) -> bool {
+        matches!(self.answer, Answer::Refused(_))
+    }
+}
+
 /// The library's numbers for an answer of the second implementation.
 fn numbers(answer: Answer) -> AuctionNumbers {
     let (price, volume, refusal) = match answer {
@@ -91,10 +97,11 @@ pub fn beside<const LISTS: usize>(
         return Err("an order was written".into());
     }
     let is_equal = scratch.iter().eq(lists.map(|(_, words)| words));
-    if matches!(answer, Answer::Refused(_)) && !is_equal {
+    let left = Left { answer, scratch };
+    if left.is_refused() && !is_equal {
         return Err(format!("{answer} changed a scratch list"));
     }
-    Ok(Left { answer, scratch })
+    Ok(left)
 }
 
 /// The first place where the scratch lists are not alike.

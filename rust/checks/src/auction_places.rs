@@ -17,7 +17,7 @@ const BY_STEP: usize = 5;
 const BY_LAST_STEP: usize = 11;
 pub const AUCTION_PLACES: usize = 12;
 
-const WORDS: [&str; AUCTION_PLACES] = [
+pub const WORDS: [&str; AUCTION_PLACES] = [
     "refused 14",
     "refused 15",
     "none, no limit in the list",
@@ -91,45 +91,6 @@ fn of_price(candidates: Vec<Candidate>, reference: u32) -> usize {
     BY_LAST_STEP
 }
 
-/// How often each of them came.
-#[derive(Clone, Debug, Default)]
-pub struct AuctionTally([u64; AUCTION_PLACES]);
-
-impl AuctionTally {
-    pub fn add(&mut self, place: usize) {
-        self.0[place] += 1;
-    }
-
-    /// What should have come and did not; where nothing ran, nothing should.
-    pub fn gaps(&self, group: &str) -> Vec<String> {
-        if self.0 == [0; AUCTION_PLACES] {
-            return Vec::new();
-        }
-        let counts = self.0.iter().zip(WORDS);
-        let never = counts.filter(|&(&count, _)| count == 0);
-        never
-            .map(|(_, words)| format!("{words}: never came in {group}"))
-            .collect()
-    }
-}
-
-/// A table of both tallies, with how many calls were compared.
-pub fn auction_table(fixed: &AuctionTally, random: &AuctionTally) -> String {
-    let line = |words: &str, [fixed, random]: [u64; 2]| match fixed + random {
-        0 => String::new(),
-        _ => format!("{words:<34}{fixed:>10}{random:>15}\n"),
-    };
-    let heading = format!(
-        "{:<34}{:>10}{:>15}\n",
-        "auction", "auctions", "auction-books"
-    );
-    let counts = fixed.0.iter().zip(random.0);
-    let lines = WORDS.into_iter().zip(counts);
-    let lines = lines.map(|(words, (&fixed, random))| line(words, [fixed, random]));
-    let all = [fixed, random].map(|tally| tally.0.iter().sum());
-    heading + &lines.collect::<String>() + &line("all calls", all)
-}
-
 #[cfg(test)]
 mod tests {
     use second::auction::Order;
@@ -185,18 +146,5 @@ mod tests {
         ] {
             assert_eq!(place(orders, reference), expected, "{orders:?}");
         }
-    }
-
-    #[test]
-    fn what_never_came() {
-        let mut tally = AuctionTally::default();
-        assert!(tally.gaps("auctions").is_empty());
-        for place in 1..AUCTION_PLACES {
-            tally.add(place);
-        }
-        assert_eq!(
-            tally.gaps("auctions"),
-            ["refused 14: never came in auctions"]
-        );
     }
 }

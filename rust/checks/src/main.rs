@@ -8,6 +8,8 @@ mod auction_comparison;
 mod auction_lists;
 mod auction_outcome;
 mod auction_places;
+mod auction_shapes;
+mod auction_tally;
 mod auctions;
 mod bases;
 mod comparison;
@@ -109,9 +111,9 @@ const RANDOM: [Group; 6] = [
     ("auction-books", auction_books::run),
 ];
 
-/// From so many rounds on, every answer must have come in the histories, and every
-/// one of the auction in its books. So many are done however slow the machine is
-/// and however long the fixed cases took.
+/// From so many rounds on, every answer must have come in the histories, and in the
+/// books every one of the auction and every sort of place on request 6's list. So
+/// many are done however slow the machine is and however long the fixed cases took.
 const ENOUGH_ROUNDS: u64 = 20;
 
 fn main() -> ExitCode {

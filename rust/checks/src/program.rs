@@ -6,7 +6,7 @@ use std::time::{Duration, Instant};
 
 use crate::auction_call::Call;
 use crate::auction_outcome::{Outcome, compare};
-use crate::auction_places::{AuctionTally, auction_place, auction_table};
+use crate::auction_tally::{AuctionTally, auction_table};
 use crate::comparison::{Comparison, Difference};
 use crate::places::place;
 use crate::random::Random;
@@ -159,7 +159,7 @@ impl Program {
             None => &mut self.auctions,
             Some(_) => &mut self.auction_books,
         };
-        tally.add(auction_place(call, &outcome.sums));
+        tally.add(call, &outcome);
         self.pass();
         Some(outcome)
     }
@@ -267,8 +267,8 @@ impl Program {
 
     /// Says what each group had and how often each answer came. Where all groups
     /// ran, it is a failure if one had no case, or an answer never came that
-    /// should have, or came that should not. Of the auction's answers it is one
-    /// wherever their group ran.
+    /// should have, or came that should not. Of the auction's answers and of what
+    /// its calls leave it is one wherever their group ran.
     pub fn finish(&mut self, is_whole: bool, enough_rounds: bool) {
         print!("{}", self.shares.table());
         print!("{}", tally::table(&self.all, &self.histories));
