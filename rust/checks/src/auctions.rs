@@ -8,6 +8,7 @@ use second::ladder;
 use crate::auction_call::Call;
 use crate::auction_lists;
 use crate::auction_outcome::Answers;
+use crate::auction_volumes;
 use crate::prices::step;
 use crate::program::Program;
 use crate::random::Random;
@@ -17,6 +18,30 @@ pub const ATO: u32 = 0;
 /// In every band of the ladder, beside its first price and at both ends.
 pub const POSITIONS: [u32; 17] = [
     1, 50, 197, 200, 347, 350, 447, 450, 597, 600, 897, 900, 1_097, 1_100, 1_300, 2_000, 51_090,
+];
+
+/// The books of source documents 002 and 003.
+pub const OF_002: [Order; 13] = [
+    buy(ATO, 1_000),
+    buy(103_00, 1_000),
+    buy(103_00, 1_300),
+    buy(102_00, 500),
+    buy(102_00, 1_100),
+    buy(101_00, 800),
+    buy(101_00, 300),
+    sell(102_00, 2_500),
+    sell(102_00, 1_000),
+    sell(103_00, 500),
+    sell(104_00, 1_000),
+    sell(105_00, 1_500),
+    sell(106_00, 500),
+];
+pub const OF_003: [Order; 5] = [
+    buy(49_00, 900),
+    buy(48_00, 300),
+    sell(49_00, 400),
+    sell(52_00, 4_400),
+    sell(ATO, 600),
 ];
 
 /// How often a list is shuffled.
@@ -35,9 +60,10 @@ pub fn run(program: &mut Program) {
         different_prices(program, &mut random, position);
     }
     auction_lists::run(program, &mut random);
+    auction_volumes::run(program, &mut random);
 }
 
-pub fn buy(price: u32, volume: u32) -> Order {
+pub const fn buy(price: u32, volume: u32) -> Order {
     Order {
         side: 0,
         price,
@@ -45,7 +71,7 @@ pub fn buy(price: u32, volume: u32) -> Order {
     }
 }
 
-pub fn sell(price: u32, volume: u32) -> Order {
+pub const fn sell(price: u32, volume: u32) -> Order {
     Order {
         side: 1,
         price,
@@ -101,35 +127,13 @@ pub fn says(program: &mut Program, name: &str, call: &Call, expected: impl Into<
 }
 
 fn documents(program: &mut Program, random: &mut Random) {
-    let of_002 = [
-        buy(ATO, 1_000),
-        buy(103_00, 1_000),
-        buy(103_00, 1_300),
-        buy(102_00, 500),
-        buy(102_00, 1_100),
-        buy(101_00, 800),
-        buy(101_00, 300),
-        sell(102_00, 2_500),
-        sell(102_00, 1_000),
-        sell(103_00, 500),
-        sell(104_00, 1_000),
-        sell(105_00, 1_500),
-        sell(106_00, 500),
-    ];
-    let of_003 = [
-        buy(49_00, 900),
-        buy(48_00, 300),
-        sell(49_00, 400),
-        sell(52_00, 4_400),
-        sell(ATO, 600),
-    ];
     for reference in [0, 1, 48_00, 49_00, 102_00, 106_00, u32::MAX] {
         let expected = price(102_00, 3_500);
         let name = "the book of document 002";
-        expect(program, random, name, &of_002, reference, expected);
+        expect(program, random, name, &OF_002, reference, expected);
         let expected = price(49_00, 900);
         let name = "the book of document 003";
-        expect(program, random, name, &of_003, reference, expected);
+        expect(program, random, name, &OF_003, reference, expected);
     }
 }
 

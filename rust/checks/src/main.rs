@@ -10,6 +10,7 @@ mod auction_outcome;
 mod auction_places;
 mod auction_shapes;
 mod auction_tally;
+mod auction_volumes;
 mod auctions;
 mod bases;
 mod comparison;

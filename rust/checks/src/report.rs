@@ -1,6 +1,6 @@
 //! What is said about a failed case.
 
-use std::fmt::Write;
+use std::fmt::{Display, Write};
 
 use second::state::word_count;
 
@@ -25,9 +25,13 @@ pub fn lines<'a>(events: impl IntoIterator<Item = &'a [u8]>) -> String {
 
 /// The first place where the gate's list is not as wanted; empty if there is
 /// none. `name` says what stands at a place.
-pub fn first_wrong(gate: &[u32], wanted: &[u32], name: impl Fn(usize) -> String) -> String {
+pub fn first_wrong<W: PartialEq + Display>(
+    gate: &[W],
+    wanted: &[W],
+    name: impl Fn(usize) -> String,
+) -> String {
     first_unlike(gate, wanted).map_or(String::new(), |place| {
-        let (gate, wanted) = (gate[place], wanted[place]);
+        let (gate, wanted) = (&gate[place], &wanted[place]);
         format!(
             "{} is {gate} in the gate and should be {wanted}\n",
             name(place)
