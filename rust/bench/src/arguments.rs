@@ -1,6 +1,6 @@
 //! What the program is asked to do.
 
-use crate::auction::NAME;
+use crate::auction::{Call, NAME};
 use crate::implementation::Implementation;
 use crate::mixture::Mixture;
 use crate::size::Size;
@@ -13,8 +13,9 @@ usage: bench [--repeats N] [--at CUSTOMERS,SECURITIES,ROWS] [--only NAME] [MIXTU
   --only NAME    time only gate, second or tuned, and compare nothing, so that it
                  handles each list N times and no more
   MIXTURE        order-heavy, pre-open, cancel-heavy, cancel-match, market-heavy
-                 or session, or auction, which has neither a state nor a tuned
-                 implementation; without one, all of them";
+                 or session, or auction or volumes (with two scratch lists and
+                 with one), which have neither a state nor a tuned implementation;
+                 without one, all of them";
 
 /// Odd, so that there is a median.
 const REPEATS: usize = 51;
@@ -27,7 +28,7 @@ pub struct Arguments {
     pub implementations: Vec<Implementation>,
     at: Option<Size>,
     mixtures: Vec<Mixture>,
-    auction: bool,
+    calls: Vec<Call>,
 }
 
 impl Arguments {
@@ -37,7 +38,7 @@ impl Arguments {
             implementations: Implementation::ALL.to_vec(),
             at: None,
             mixtures: Vec::new(),
-            auction: false,
+            calls: Vec::new(),
         };
         let mut only = None;
         let mut words = words.into_iter();
@@ -49,8 +50,10 @@ impl Arguments {
                 "--only" if only.is_some() => return Err(String::from("--only is given twice")),
                 "--only" => only = Some(implementation(&value()?)?),
                 _ if word.starts_with('-') => return Err(format!("unknown argument {word:?}")),
-                NAME => arguments.auction = true,
-                _ => arguments.mixtures.push(mixture(&word)?),
+                _ => match Call::named(&word) {
+                    Some(call) => arguments.calls.push(call),
+                    None => arguments.mixtures.push(mixture(&word)?),
+                },
             }
         }
         if let Some(only) = only {
@@ -72,11 +75,15 @@ impl Arguments {
     }
 
     fn check_auction(&self) -> Result<(), String> {
-        if self.auction && self.at.is_some() {
-            return Err(format!("{NAME} has no state that --at could be for"));
+        let Some(call) = self.calls.first() else {
+            return Ok(());
+        };
+        if self.at.is_some() {
+            let name = call.name();
+            return Err(format!("{name} has no state that --at could be for"));
         }
         match self.implementations[..] {
-            [alone] if self.auction && !Implementation::AUCTION.contains(&alone) => {
+            [alone] if !Implementation::AUCTION.contains(&alone) => {
                 Err(format!("{} has no {NAME}", alone.name()))
             }
             _ => Ok(()),
@@ -84,7 +91,7 @@ impl Arguments {
     }
 
     fn is_everything_asked(&self) -> bool {
-        self.mixtures.is_empty() && !self.auction
+        self.mixtures.is_empty() && self.calls.is_empty()
     }
 
     /// The mixtures asked for, in the order of the table.
@@ -95,9 +102,18 @@ impl Arguments {
             .filter(move |mixture| self.is_everything_asked() || is_asked(mixture))
     }
 
+    /// The calls of the auction asked for, in the order of the table.
+    pub fn calls(&self) -> Vec<Call> {
+        let mut calls = Call::ALL.to_vec();
+        if !self.is_everything_asked() || self.at.is_some() {
+            calls.retain(|call| self.calls.contains(call));
+        }
+        calls
+    }
+
     /// Those of which the auction is asked for, the gate first.
     pub fn auction(&self) -> Vec<Implementation> {
-        if !self.auction && (!self.is_everything_asked() || self.at.is_some()) {
+        if self.calls().is_empty() {
             return Vec::new();
         }
         let mut implementations = self.implementations.clone();
@@ -148,16 +164,19 @@ mod tests {
         assert!(arguments.mixtures().eq(Mixture::ALL));
         assert_eq!(arguments.sizes(Mixture::Orders), Mixture::Orders.sizes());
         assert_eq!(arguments.auction(), Implementation::AUCTION);
+        assert_eq!(arguments.calls(), Call::ALL);
     }
 
     #[test]
     fn only_the_auction() {
-        let arguments = parse("auction --repeats 3").unwrap();
+        let arguments = parse("volumes auction --repeats 3").unwrap();
         assert_eq!(arguments.mixtures().count(), 0);
         assert_eq!(arguments.auction(), Implementation::AUCTION);
-        let arguments = parse("session auction --only second").unwrap();
+        assert_eq!(arguments.calls(), Call::ALL);
+        let arguments = parse("session volumes --only second").unwrap();
         assert!(arguments.mixtures().eq([Mixture::Sessions]));
         assert_eq!(arguments.auction(), [Implementation::Second]);
+        assert_eq!(arguments.calls(), [Call::Volumes]);
     }
 
     #[test]
@@ -206,7 +225,9 @@ mod tests {
         for mixture in Mixture::ALL {
             assert!(USAGE.contains(mixture.name()), "{mixture:?}");
         }
-        assert!(USAGE.contains(NAME));
+        for call in Call::ALL {
+            assert!(USAGE.contains(call.name()), "{call:?}");
+        }
         for implementation in Implementation::ALL {
             assert!(USAGE.contains(implementation.name()), "{implementation:?}");
         }
@@ -243,7 +264,12 @@ mod tests {
                 "auction --at 16,64,10",
                 "auction has no state that --at could be for",
             ),
+            (
+                "volumes --at 16,64,10",
+                "volumes has no state that --at could be for",
+            ),
             ("auction --only tuned", "tuned has no auction"),
+            ("volumes --only tuned", "tuned has no auction"),
         ];
         for (line, message) in expected {
             assert_eq!(parse(line).unwrap_err(), message);

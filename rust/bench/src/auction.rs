@@ -1,17 +1,17 @@
-//! The books of orders that the auction (paper 02, request 5) is timed over.
+//! The books of orders that the auction (paper 02, requests 5 and 6) is timed over.
 
 mod book;
+mod call;
 
 use std::hint::black_box;
 use std::time::{Duration, Instant};
-
-use guvontsira::library::{self, AuctionNumbers};
-use second::auction::{SCRATCH_PLACES, auction};
 
 use crate::compare::{Difference, first_unlike};
 use crate::implementation::Implementation;
 use crate::measure::medians;
 use book::{Book, Prices, Random};
+pub use call::Call;
+use call::{Given, Scratch, scratch};
 
 pub const NAME: &str = "auction";
 
@@ -28,22 +28,6 @@ pub struct Books {
     pub length: usize,
     reference: u32,
     books: Vec<Book>,
-}
-
-/// The two scratch lists. A call does not read what it finds in them.
-#[derive(Clone, Debug, PartialEq, Eq)]
-struct Scratch {
-    buyers: Vec<u64>,
-    sellers: Vec<u64>,
-}
-
-impl Scratch {
-    fn new() -> Self {
-        Scratch {
-            buyers: vec![0; SCRATCH_PLACES],
-            sellers: vec![0; SCRATCH_PLACES],
-        }
-    }
 }
 
 impl Books {
@@ -74,9 +58,13 @@ impl Books {
     }
 
     /// The first implementation of several is the gate; one alone is not run.
-    pub fn compare(&self, implementations: &[Implementation]) -> Result<(), Difference> {
-        self.compare_by(implementations, |which, book, scratch| {
-            self.answer(which, book, scratch)
+    pub fn compare(
+        &self,
+        call: Call,
+        implementations: &[Implementation],
+    ) -> Result<(), Difference> {
+        self.compare_by(implementations, |which, book, lists| {
+            call.of(which)(book, self.reference, lists).to_string()
         })
     }
 
@@ -89,9 +77,9 @@ impl Books {
             return Ok(());
         };
         let outcome = |implementation, book| {
-            let mut scratch = Scratch::new();
-            let answer = answer(implementation, book, &mut scratch);
-            (answer, [scratch.buyers, scratch.sellers].concat())
+            let mut lists = scratch();
+            let answer = answer(implementation, book, &mut lists);
+            (answer, lists.concat())
         };
         for (number, book) in self.books.iter().enumerate() {
             let expected = outcome(gate, book);
@@ -110,72 +98,35 @@ impl Books {
         Ok(())
     }
 
-    fn answer(&self, which: Implementation, book: &Book, scratch: &mut Scratch) -> String {
-        let Scratch { buyers, sellers } = scratch;
-        match which {
-            Implementation::Gate => listed(library::auction(
-                &book.gate,
-                self.reference,
-                buyers,
-                sellers,
-            )),
-            Implementation::Second => {
-                auction(&book.second, self.reference, buyers, sellers).to_string()
-            }
-            Implementation::Tuned => unreachable!("the tuned one has no auction"),
-        }
-    }
-
-    /// Nanoseconds a call, for each implementation.
-    pub fn measure(&self, implementations: &[Implementation], repeats: usize) -> Vec<f64> {
-        let count = implementations.len();
-        let mut scratch = vec![Scratch::new(); count];
-        let medians = medians(count, repeats, |place| {
-            self.time(implementations[place], &mut scratch[place])
+    /// Nanoseconds a call: for each call those of each implementation. All of them
+    /// take turns.
+    pub fn measure(
+        &self,
+        calls: &[Call],
+        implementations: &[Implementation],
+        repeats: usize,
+    ) -> Vec<Vec<f64>> {
+        let of = |&call: &Call| implementations.iter().map(move |&which| call.of(which));
+        let timed: Vec<_> = calls.iter().flat_map(of).collect();
+        let mut lists = vec![scratch(); timed.len()];
+        let medians = medians(timed.len(), repeats, |place| {
+            self.time(timed[place], &mut lists[place])
         });
         let times = medians.into_iter();
-        times
+        let times: Vec<f64> = times
             .map(|time| time.as_nanos() as f64 / self.len() as f64)
-            .collect()
+            .collect();
+        let lines = times.chunks(implementations.len());
+        lines.map(<[f64]>::to_vec).collect()
     }
 
-    /// How long a call with each book takes.
-    fn time(&self, which: Implementation, scratch: &mut Scratch) -> Duration {
-        let reference = self.reference;
-        let Scratch { buyers, sellers } = scratch;
-        match which {
-            Implementation::Gate => self
-                .timed(|book| library::auction(black_box(&book.gate), reference, buyers, sellers)),
-            Implementation::Second => {
-                self.timed(|book| auction(black_box(&book.second), reference, buyers, sellers))
-            }
-            Implementation::Tuned => unreachable!("the tuned one has no auction"),
-        }
-    }
-
-    fn timed<A>(&self, mut call: impl FnMut(&Book) -> A) -> Duration {
+    /// How long it takes with all books.
+    fn time(&self, call: fn(&Book, u32, &mut Scratch) -> Given, lists: &mut Scratch) -> Duration {
         let begin = Instant::now();
         for book in &self.books {
-            black_box(call(book));
+            black_box(call(black_box(book), self.reference, lists));
         }
         begin.elapsed()
-    }
-}
-
-/// The gate's numbers in the words of the second implementation.
-fn listed(numbers: AuctionNumbers) -> String {
-    match numbers {
-        AuctionNumbers {
-            volume: 0,
-            price: 0,
-            refusal: 0,
-        } => String::from("none"),
-        AuctionNumbers {
-            volume,
-            price,
-            refusal: 0,
-        } => format!("price {price} volume {volume}"),
-        AuctionNumbers { refusal, .. } => format!("refused {refusal}"),
     }
 }
 
@@ -183,18 +134,24 @@ fn listed(numbers: AuctionNumbers) -> String {
 mod tests {
     use super::*;
 
+    fn books_and_calls() -> impl Iterator<Item = (Books, Call)> {
+        let calls = Call::ALL.into_iter();
+        calls.flat_map(|call| Books::all().into_iter().map(move |books| (books, call)))
+    }
+
     #[test]
     fn all_are_alike() {
-        for books in Books::all() {
-            assert_eq!(books.compare(&Implementation::AUCTION), Ok(()));
+        for (books, call) in books_and_calls() {
+            assert_eq!(books.compare(call, &Implementation::AUCTION), Ok(()));
         }
     }
 
     #[test]
     fn every_book_gives_a_price() {
-        for books in Books::all() {
+        for (books, call) in books_and_calls() {
             for book in &books.books {
-                let answer = books.answer(Implementation::Second, book, &mut Scratch::new());
+                let call = call.of(Implementation::Second);
+                let answer = call(book, books.reference, &mut scratch()).to_string();
                 assert!(answer.starts_with("price "), "{answer}");
             }
         }
@@ -215,8 +172,8 @@ mod tests {
     #[test]
     fn a_word_that_differs() {
         let books = Books::prepare(Prices::Different, 1_024);
-        let difference = books.compare_by(&Implementation::AUCTION, |which, _, scratch| {
-            scratch.sellers[7] = u64::from(which == Implementation::Second);
+        let difference = books.compare_by(&Implementation::AUCTION, |which, _, lists| {
+            lists[1][7] = u64::from(which == Implementation::Second);
             String::new()
         });
         assert_eq!(

@@ -103,23 +103,28 @@ fn print_auction(
     implementations: Vec<Implementation>,
 ) -> Result<(), String> {
     let table = Table { implementations };
+    let calls = arguments.calls();
     println!("\n{}", table.auction_heading());
-    let mut lines = Vec::new();
+    let mut lines = vec![Vec::new(); calls.len()];
     for books in Books::all() {
         let (prices, length) = (books.prices, books.length);
-        books
-            .compare(&table.implementations)
-            .map_err(|difference| {
-                format!(
-                    "{} of {length} orders, {prices} prices: {difference}",
-                    auction::NAME
-                )
-            })?;
-        let times = books.measure(&table.implementations, arguments.repeats);
-        println!("{}", table.auction_line(&books, &times));
-        lines.push(times);
+        for &call in &calls {
+            books
+                .compare(call, &table.implementations)
+                .map_err(|difference| {
+                    let name = call.name();
+                    format!("{name} of {length} orders, {prices} prices: {difference}")
+                })?;
+        }
+        let times = books.measure(&calls, &table.implementations, arguments.repeats);
+        for ((&call, times), lines) in calls.iter().zip(times).zip(&mut lines) {
+            println!("{}", table.auction_line(call, &books, &times));
+            lines.push(times);
+        }
     }
-    println!("{}", table.mean(auction::NAME, &lines));
+    for (call, lines) in calls.iter().zip(&lines) {
+        println!("{}", table.mean(call.name(), lines));
+    }
     Ok(())
 }
 
@@ -133,6 +138,9 @@ mod tests {
             let name = format!("\n  {} ", mixture.name());
             assert!(MEASURED.contains(&name), "{mixture:?}");
         }
-        assert!(MEASURED.contains(&format!("\n  {} ", auction::NAME)));
+        for call in auction::Call::ALL {
+            let name = format!("\n  {} ", call.name());
+            assert!(MEASURED.contains(&name), "{call:?}");
+        }
     }
 }

@@ -1,6 +1,6 @@
 //! The lines of the table. Each is printed as soon as it is measured.
 
-use crate::auction::{Books, NAME};
+use crate::auction::{Books, Call, NAME};
 use crate::implementation::Implementation;
 use crate::mixture::Mixture;
 use crate::size::Size;
@@ -46,12 +46,13 @@ impl Table {
         format!("{name:<13}{customers:>10}{securities:>11}{rows:>5}{events:>7}") + &columns(times)
     }
 
-    pub fn auction_line(&self, books: &Books, times: &[f64]) -> String {
-        let (prices, orders, calls) = (books.prices, books.length, books.len());
-        format!("{NAME:<13}{prices:>10}{orders:>11}{calls:>12}") + &columns(times)
+    pub fn auction_line(&self, call: Call, books: &Books, times: &[f64]) -> String {
+        let (name, prices) = (call.name(), books.prices);
+        let (orders, calls) = (books.length, books.len());
+        format!("{name:<13}{prices:>10}{orders:>11}{calls:>12}") + &columns(times)
     }
 
-    /// Over all lines of a mixture or of the auction.
+    /// Over all lines of a mixture or of a call of the auction.
     pub fn mean(&self, name: &str, lines: &[Vec<f64>]) -> String {
         let means: Vec<f64> = (0..self.implementations.len())
             .map(|place| geometric_mean(lines.iter().map(|times| times[place])))
@@ -130,15 +131,15 @@ mod tests {
         assert_eq!(
             [
                 table.auction_heading(),
-                table.auction_line(&books[2], &lines[0]),
-                table.auction_line(&books[3], &lines[1]),
-                table.mean(NAME, &lines),
+                table.auction_line(Call::Sums, &books[2], &lines[0]),
+                table.auction_line(Call::Volumes, &books[3], &lines[1]),
+                table.mean("volumes", &lines),
             ],
             [
                 "auction          prices     orders       calls    gate ns  second ns gate/second",
                 "auction          shared       1024           8      100.0      200.0        0.50",
-                "auction       different         16         512      400.0      200.0        2.00",
-                "auction              geometric mean of 2 lines      200.0      200.0        1.00",
+                "volumes       different         16         512      400.0      200.0        2.00",
+                "volumes              geometric mean of 2 lines      200.0      200.0        1.00",
             ]
         );
     }

@@ -32,6 +32,7 @@ fn bad_arguments_fail_with_the_usage() {
         "--only gate --only gate",
         "auction --at 16,64,10",
         "auction --only tuned",
+        "volumes --at 16,64,10",
     ] {
         let output = bench(line);
         assert_eq!(output.status.code(), Some(1), "{line}");
@@ -83,22 +84,45 @@ fn one_implementation() {
     }
 }
 
-#[test]
-fn only_the_auction() {
-    let output = bench("auction --repeats 1");
+/// The columns of the auction's table, which stands alone.
+fn auction_columns(line: &str) -> Vec<Vec<String>> {
+    let output = bench(line);
     assert!(output.status.success());
     let text = String::from_utf8(output.stdout).unwrap();
     assert!(!text.contains("\nmixture "), "{text}");
     let table = text
         .lines()
         .skip_while(|line| !line.starts_with("auction "));
-    let columns: Vec<Vec<&str>> = table
-        .map(|line| line.split_whitespace().collect())
-        .collect();
-    // Two sorts of prices at three lengths, and the mean.
-    assert_eq!(columns.len(), 1 + 6 + 1);
-    assert_eq!(columns[1][..4], ["auction", "shared", "16", "512"]);
-    assert_eq!(columns[6][..4], ["auction", "different", "1024", "8"]);
-    // Two times and a ratio.
-    assert_eq!(columns[1].len(), 7);
+    table
+        .map(|line| line.split_whitespace().map(String::from).collect())
+        .collect()
+}
+
+#[test]
+fn only_the_auction() {
+    for name in ["auction", "volumes"] {
+        let columns = auction_columns(&format!("{name} --repeats 1"));
+        // Two sorts of prices at three lengths, and the mean.
+        assert_eq!(columns.len(), 1 + 6 + 1);
+        assert_eq!(columns[1][..4], [name, "shared", "16", "512"]);
+        assert_eq!(columns[6][..4], [name, "different", "1024", "8"]);
+        assert_eq!(columns[7][0], name);
+        // Two times and a ratio.
+        assert_eq!(columns[1].len(), 7);
+    }
+}
+
+#[test]
+fn both_calls_of_the_auction() {
+    let columns = auction_columns("volumes auction --repeats 1 --only gate");
+    assert_eq!(columns.len(), 1 + 12 + 2);
+    for pair in columns[1..].chunks(2) {
+        let [two_lists, one_list] = pair else {
+            panic!("{pair:?}");
+        };
+        assert_eq!([&two_lists[0], &one_list[0]], ["auction", "volumes"]);
+        // Of the same books, or the mean; then the time.
+        let time = two_lists.len() - 1;
+        assert_eq!(two_lists[1..time], one_list[1..time]);
+    }
 }
