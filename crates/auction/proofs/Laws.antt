@@ -1,4 +1,4 @@
--- What holds before a turn of each of the two loops of `price` and of `price_and_volumes`, that a turn keeps it, and what each promises from there. No machine and no memory: the walks in `price/Proof.antt` and `volumes/price_and_volumes/Proof.antt` cite these.
+-- What holds before a turn of each of the two loops of `price` and of `price_and_volumes`, and that a turn keeps it. No machine and no memory: the walks in `price/Proof.antt` and `volumes/price_and_volumes/Proof.antt` cite these, and `Promised.antt` what they promise from there.
 -- Assumes nothing.
 use mathlib.Core.Bool.{Bool, true, false, cond, not, _&&_, _||_}
 use mathlib.Core.List.{List, [], _∷_, _++_, map, map-append}
@@ -7,23 +7,17 @@ use Prim.Native.Nat.{ℕ, zero, suc, _+_, _-_, _*_, _≤_, _<_, _^_}
 use native.Mathlib.Omega.{arith}
 use lib.Dec.{eqb}
 use lib.ListN.{length, getD, set, take, drop, drop-of-length-le, length-map, length-set, length-take}
-use lib.Seq.{set-at, append-snoc, take-all, take-at}
+use lib.Seq.{set-at, append-snoc, take-all}
 use borrow.Author.Tests.{eq-eqb, eqb-true}
-use Rattle.definitions.specs.Lists.{any, firstMet}
+use Rattle.definitions.specs.Lists.{any}
 use Rattle.definitions.proofs.Lists.{any-end, any-next, drop-next, take-next}
-use Rattle.definitions.proofs.Tests.{and-parts, and-second, or-first}
+use Rattle.definitions.proofs.Tests.{and-second}
 use Rattle.auction_definitions.specs.declared.AuctionOrder.{AuctionOrder}
 use Rattle.auction_definitions.specs.declared.Line.{Line}
-use Rattle.auction_definitions.specs.declared.AuctionAnswer.{AuctionAnswer}
-use Rattle.auction_definitions.specs.declared.AuctionAnswer.the-variants.{Refused}
-use Rattle.auction_definitions.specs.Auction.{auction, badOrder, buyersAfter, buysAt, emptyLine, lineAt, listsFit, placeLine, refusal, sellersAfter, sellsAt, sumOf, sumsIn, volumeOf}
-use Rattle.auction_definitions.specs.Volumes.{auctionInOne, placeVolume, volumesAfter, volumesIn}
+use Rattle.auction_definitions.specs.Auction.{badOrder, buysAt, emptyLine, lineAt, placeLine, sellsAt, sumOf, sumsIn}
 use Rattle.auction_definitions.proofs.Accepted.{noOrder}
-use Rattle.auction_definitions.proofs.VolumePromises.{place-volume}
-use Rattle.auction_lines.specs.Lines.{answerOf, betterOf, withOrder}
-use Rattle.auction.specs.Turns.{bestAfter, clearedFrom, filledTo, lineAfter}
-use Rattle.auction.proofs.Chosen.{chosen}
-use Rattle.auction.proofs.Cleared.{zeros}
+use Rattle.auction_lines.specs.Lines.{betterOf, withOrder}
+use Rattle.auction.specs.Turns.{bestAfter, filledTo, lineAfter}
 
 -- before the turn of place i: nothing bad was met in an earlier turn, and the best line is that of the places passed
 pub record Candidates (orders : List AuctionOrder) (reference i : ℕ) (best : Line) : Type 0 where
@@ -87,11 +81,6 @@ place-line orders o = line-after orders (emptyLine (o .price)) ∙ go (eqb (o .p
     go true none = ap (λ (p : ℕ). lineOf p 0 0) (eqb-true (o .price) 0 none)
     go false limit = same-sums (o .price) (omega arith) (omega arith)
 
-none-bad-all : (orders : List AuctionOrder) → (0 < length orders → any badOrder orders ≡ false) → any badOrder orders ≡ false
-unfolding any
-none-bad-all [] none = refl
-none-bad-all (o ∷ os) none = none (omega arith)
-
 module _ (orders : List AuctionOrder) where
   pub orders-start : (i : ℕ) → i < length orders → Orders orders i 0 (emptyLine (getD orders i noOrder .price))
   orders-start i small =
@@ -149,12 +138,12 @@ module _ (orders : List AuctionOrder) where
           long = length-set (at .list) i (sum line) ∙ at .long;
         }
 
-    filled-whole : {i : ℕ} (at : Filled sum orders start i) → i ≡ length orders → at .list ≡ sumsIn sum orders start
+    pub filled-whole : {i : ℕ} (at : Filled sum orders start i) → i ≡ length orders → at .list ≡ sumsIn sum orders start
     unfolding filledTo sumsIn
     filled-whole at last =
         at .so-far ∙ ap (λ (k : ℕ). filledTo sum orders k start) last ∙ ap (λ os. map (λ o. sum (placeLine orders o)) os ++ drop (length orders) start) (take-all (length orders) orders (omega arith))
 
-    nothing-filled : {i : ℕ} (at : Filled sum orders start i) → i ≡ 0 → at .list ≡ start
+    pub nothing-filled : {i : ℕ} (at : Filled sum orders start i) → i ≡ 0 → at .list ≡ start
     unfolding filledTo
     nothing-filled at first = at .so-far ∙ rw first
 
@@ -178,108 +167,3 @@ module _ (orders : List AuctionOrder) (reference : ℕ) where
             ap (λ l. bestAfter reference orders (betterOf reference l best) (drop (i + 1) orders)) (line-whole orders done)
             ∙ sym (ap (bestAfter reference orders best) (drop-next orders i noOrder small)) ∙ at .best-left;
       }
-
-module _ (orders : List AuctionOrder) (reference : ℕ) (buyers sellers : List ℕ) where
-  abbrev fit : Bool
-  fit = listsFit (length orders) (length buyers) (length sellers)
-
-  refusal-0 : fit ≡ true → any badOrder orders ≡ false → refusal orders buyers sellers ≡ 0
-  unfolding refusal firstMet
-  refusal-0 fits none = rw (fits, none)
-
-  refusal-14 : fit ≡ false → refusal orders buyers sellers ≡ 14
-  unfolding refusal firstMet
-  refusal-14 unfit = rw unfit
-
-  refusal-15 : fit ≡ true → any badOrder orders ≡ true → refusal orders buyers sellers ≡ 15
-  unfolding refusal firstMet
-  refusal-15 fits some = rw (fits, some)
-
-  -- a refusal's number is the answer
-  refused : {n : ℕ} → refusal orders buyers sellers ≡ n → eqb n 0 ≡ false → Refused n ≡ auction orders reference buyers sellers
-  unfolding auction
-  refused e above = rw (e, above)
-
-  -- every place was passed
-  answered : {i : ℕ} {best : Line} → fit ≡ true → i ≡ length orders → Candidates orders reference i best
-      → (refusal orders buyers sellers ≡ 0) × (answerOf false best ≡ auction orders reference buyers sellers)
-  unfolding auction bestAfter
-  answered {i} {best} fits last at =
-      let none : refusal orders buyers sellers ≡ 0 = refusal-0 fits (none-bad-all orders (λ some. at .none-bad (omega (arith, some, last)))) in
-      let whole : best ≡ bestAfter reference orders (emptyLine 0) orders = sym (ap (bestAfter reference orders best) (drop-of-length-le orders {i = i} (omega (arith, last)))) ∙ at .best-left in
-      (none, ap (answerOf false) whole ∙ chosen reference orders ∙ rw none)
-
-  -- a bad order was met, which only the first turn asks about
-  answered-bad : {i j : ℕ} {line : Line} → fit ≡ true → Orders orders i j line → j < length orders
-      → (eqb i 0 && badOrder (getD orders j noOrder)) ≡ true → (i ≡ 0) × (refusal orders buyers sellers ≡ 15)
-  answered-bad {i} {j} fits on small bad =
-      let parts : (eqb i 0 ≡ true) × (badOrder (getD orders j noOrder) ≡ true) = and-parts (eqb i 0) (badOrder (getD orders j noOrder)) bad in
-      let first : i ≡ 0 = eqb-true i 0 (parts .0) in
-      let some : any badOrder orders ≡ true = sym (on .bad-left first) ∙ any-next badOrder orders j noOrder small ∙ or-first (any badOrder (drop (j + 1) orders)) (parts .1) in
-      (first, refusal-15 fits some)
-
-  -- what `price` promises, of an answer and the two lists left
-  abbrev pub Promised : AuctionAnswer → List ℕ → List ℕ → Type 0
-  Promised answer bs ss = (answer ≡ auction orders reference buyers sellers) × (bs ≡ buyersAfter orders buyers sellers) × (ss ≡ sellersAfter orders buyers sellers)
-
-  left : {n : ℕ} → refusal orders buyers sellers ≡ n → eqb n 0 ≡ false → (buyers ≡ buyersAfter orders buyers sellers) × (sellers ≡ sellersAfter orders buyers sellers)
-  left e above = rw (e, above) (refl, refl)
-
-  -- the lists do not fit
-  pub promised-unfit : fit ≡ false → Promised (Refused 14) buyers sellers
-  promised-unfit unfit = let kept = left (refusal-14 unfit) refl in (refused (refusal-14 unfit) refl, kept .0, kept .1)
-
-  pub promised : {i : ℕ} {best : Line} → fit ≡ true → i ≡ length orders → Candidates orders reference i best
-      → (bs : Filled (λ l. l .buyers) orders buyers i) (ss : Filled (λ l. l .sellers) orders sellers i) → Promised (answerOf false best) (bs .list) (ss .list)
-  promised fits last at bs ss =
-      let given = answered fits last at in
-      (given .1, filled-whole orders (λ l. l .buyers) buyers bs last ∙ rw (given .0), filled-whole orders (λ l. l .sellers) sellers ss last ∙ rw (given .0))
-
-  pub promised-bad : {i j : ℕ} {line : Line} (best : Line) → fit ≡ true → Orders orders i j line → j < length orders
-      → (eqb i 0 && badOrder (getD orders j noOrder)) ≡ true
-      → (bs : Filled (λ l. l .buyers) orders buyers i) (ss : Filled (λ l. l .sellers) orders sellers i)
-      → Promised (answerOf true best) (bs .list) (ss .list)
-  unfolding answerOf
-  promised-bad best fits on small bad bs ss =
-      let met = answered-bad fits on small bad in
-      let kept = left (met .1) refl in
-      (refused (met .1) refl, nothing-filled orders (λ l. l .buyers) buyers bs (met .0) ∙ kept .0, nothing-filled orders (λ l. l .sellers) sellers ss (met .0) ∙ kept .1)
-
-map-same : (f g : AuctionOrder → ℕ) → ((o : AuctionOrder) → f o ≡ g o) → (os : List AuctionOrder) → map f os ≡ map g os
-map-same f g same [] = refl
-map-same f g same (o ∷ os) = rw (same o, map-same f g same os)
-
--- what `price_and_volumes` promises, of an answer and the one list left
-module _ (orders : List AuctionOrder) (reference : ℕ) (volumes : List ℕ) where
-  abbrev pub PromisedInOne : AuctionAnswer → List ℕ → Type 0
-  PromisedInOne answer vs = (answer ≡ auctionInOne orders reference volumes) × (vs ≡ volumesAfter orders volumes)
-
-  refused-in-one : {n : ℕ} → refusal orders volumes volumes ≡ n → eqb n 0 ≡ false → PromisedInOne (Refused n) volumes
-  unfolding auctionInOne
-  refused-in-one e above = (refused orders reference volumes volumes e above, rw (e, above))
-
-  pub promised-unfit-in-one : fit orders reference volumes volumes ≡ false → PromisedInOne (Refused 14) volumes
-  promised-unfit-in-one unfit = refused-in-one (refusal-14 orders reference volumes volumes unfit) refl
-
-  pub promised-bad-in-one : {i j : ℕ} {line : Line} → fit orders reference volumes volumes ≡ true → Orders orders i j line → j < length orders
-      → (eqb i 0 && badOrder (getD orders j noOrder)) ≡ true → (vs : Filled volumeOf orders volumes i) → PromisedInOne (Refused 15) (vs .list)
-  promised-bad-in-one fits on small bad vs =
-      let met = answered-bad orders reference volumes volumes fits on small bad in
-      let kept = refused-in-one (met .1) refl in
-      (kept .0, nothing-filled orders volumeOf volumes vs (met .0) ∙ kept .1)
-
-  -- what stands behind the orders is cleared
-  cleared-whole : {i : ℕ} (vs : Filled volumeOf orders volumes i) → i ≡ length orders → clearedFrom (length orders) (vs .list) ≡ volumesIn orders volumes
-  unfolding clearedFrom volumesIn sumsIn
-  cleared-whole vs last =
-      let at : AuctionOrder → ℕ = λ o. volumeOf (placeLine orders o) in
-      ap (λ (k : ℕ). take (length orders) (vs .list) ++ zeros (k - length orders)) (vs .long)
-      ∙ ap (λ (l : List ℕ). take (length orders) l ++ zeros (length volumes - length orders)) (filled-whole orders volumeOf volumes vs last)
-      ∙ ap (λ (l : List ℕ). l ++ zeros (length volumes - length orders)) (take-at (map at orders) (drop (length orders) volumes) (length orders) (length-map orders at) ∙ sym (map-same (placeVolume orders) at (place-volume orders) orders))
-
-  pub promised-in-one : {i : ℕ} {best : Line} → fit orders reference volumes volumes ≡ true → i ≡ length orders → Candidates orders reference i best
-      → (vs : Filled volumeOf orders volumes i) → PromisedInOne (answerOf false best) (clearedFrom (length orders) (vs .list))
-  unfolding auctionInOne
-  promised-in-one fits last at vs =
-      let given = answered orders reference volumes volumes fits last at in
-      (given .1, cleared-whole vs last ∙ rw (given .0))

@@ -1,6 +1,6 @@
 -- Request 6 of paper 02 as theorems, a sentence each, over `auctionInOne` and `volumesAfter`, which the code's contracts name (crates/auction).
 -- Assumes nothing.
-use mathlib.Core.Bool.{Bool, true, false, cond, not, _&&_}
+use mathlib.Core.Bool.{Bool, true, false, cond, _&&_}
 use mathlib.Core.List.{List, [], _∷_, _++_, map}
 use mathlib.Core.Path.{_≡_, refl, sym, _∙_, ap}
 use Prim.Native.Nat.{ℕ, zero, suc, _+_, _-_, _≤_, _<_, min}
@@ -8,13 +8,10 @@ use lib.Dec.{eqb, leb, ltb}
 use lib.ListN.{length, getD, replicate, length-append, length-map, length-replicate, List·getD-map, List·getD-eq-default}
 use borrow.Author.Tests.{eqb-true, ltb-false, ltb-true, ne-eqb}
 use native.Mathlib.Omega.{arith}
-use Rattle.definitions.specs.Lists.{any, firstMet}
 use Rattle.definitions.proofs.Tests.{or-parts}
 use Rattle.auction_definitions.specs.declared.AuctionOrder.{AuctionOrder}
-use Rattle.auction_definitions.specs.declared.Line.{Line}
-use Rattle.auction_definitions.specs.declared.AuctionAnswer.{AuctionAnswer}
 use Rattle.auction_definitions.specs.declared.AuctionAnswer.the-variants.{Price, None, Refused}
-use Rattle.auction_definitions.specs.Auction.{auction, beats, buyersAfter, candidates, emptyLine, isLimit, lineAt, listsFit, maxOrders, placeLine, refusal, sellersAfter, volumeOf}
+use Rattle.auction_definitions.specs.Auction.{auction, beats, buyersAfter, candidates, emptyLine, isLimit, lineAt, maxOrders, placeLine, refusal, sellersAfter, volumeOf}
 use Rattle.auction_definitions.specs.Volumes.{auctionInOne, placeVolume, volumesAfter, volumesIn}
 use Rattle.auction_definitions.proofs.Among.{Among, read}
 use Rattle.auction_definitions.proofs.Limits.{candidate-of}

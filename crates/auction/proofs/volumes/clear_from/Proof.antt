@@ -1,7 +1,6 @@
 -- `auction::volumes::clear_from` meets its contract: before turn i the places from the first on are 0 up to i.
 -- Assumes nothing.
 use Prim.Native.Nat.{_-_}
-use native.Mathlib.Omega.{arith}
 use lib.ListN.{length}
 use borrow.Author.Needs.{needs}
 use Rattle.auction.proofs.Cleared.{Cleared, cleared-start, cleared-next, cleared-end}
