@@ -444,7 +444,8 @@ guvontsira_auction(const struct guvontsira_auction_order *orders, size_t order_c
  * more, whatever it holds. The refusals are the same two; 14 asks the count of orders
  * and the length of this one list. Afterwards volumes[i] is the volume at the price of
  * orders[i], and 0 where that is ATO or ATC; every place past the last order is 0 too,
- * to the end of the list, however long it is. After a refusal all are untouched.
+ * to the end of the list, however long it is: the time grows with that too, beside the
+ * square of the count. After a refusal all are untouched.
  */
 struct guvontsira_auction_answer
 guvontsira_auction_volumes(const struct guvontsira_auction_order *orders, size_t order_count,

@@ -754,7 +754,7 @@ static const struct guvontsira_auction_order book_003[] = {
 /* One order more than there may be. */
 static struct guvontsira_auction_order orders[MOST_ORDERS + 1];
 static uint64_t buyers[MOST_ORDERS], sellers[MOST_ORDERS];
-/* Longer than it must be: all of it is written. */
+/* Longer than it must be, and than what some calls are lent of it. */
 static uint64_t volumes[2 * MOST_ORDERS];
 
 static struct guvontsira_auction_answer
@@ -941,10 +941,10 @@ static void auction_refusals(void)
     volumes_are(0, COUNT(volumes), HELD);
     AUCTION_REFUSES(AUCTION_REFUSED_LENGTH, auction_volumes(orders, 0, 0, MOST_ORDERS - 1));
     volumes_are(0, COUNT(volumes), HELD);
-
-    /* To the end of what was lent, and no farther. */
     AUCTION_REFUSES(AUCTION_REFUSED_ORDER, auction_volumes(orders, MOST_ORDERS, 0, MOST_ORDERS));
     volumes_are(0, COUNT(volumes), HELD);
+
+    /* "0 elsewhere": to the end of what was lent, and no farther. */
     ANSWERS(OK, auction_volumes(orders, 1, 0, MOST_ORDERS).refusal);
     volumes_are(0, MOST_ORDERS, 0);
     volumes_are(MOST_ORDERS, COUNT(volumes), HELD);

@@ -4,13 +4,11 @@ use mathlib.Core.List.{List, [], _∷_, _++_, append-assoc, append-nil}
 use mathlib.Core.Path.{_≡_, refl, sym, _∙_, ap}
 use Prim.Native.Nat.{ℕ, _+_, _-_, _≤_, _<_}
 use native.Mathlib.Omega.{arith}
-use lib.ListN.{length, getD, set, take, drop, replicate, drop-of-length-le, length-append, length-replicate, length-set, replicate-append-replicate, take-append-drop}
+use lib.ListN.{length, getD, set, take, drop, drop-of-length-le, length-append, length-replicate, length-set, replicate-append-replicate, take-append-drop}
 use lib.Seq.{append-snoc, length-take-le, set-at}
 use Rattle.definitions.proofs.Lists.{drop-next}
+use Rattle.auction_definitions.proofs.VolumePromises.{zeros}
 use Rattle.auction.specs.Turns.{clearedFrom}
-
-abbrev pub zeros : ℕ → List ℕ
-zeros k = replicate k 0
 
 -- before place i is cleared: zeros stand from the first place on, and behind them what the list held. A first place behind the list leaves no turn
 pub record Cleared (place : ℕ) (d v : List ℕ) (i : ℕ) : Type 0 where

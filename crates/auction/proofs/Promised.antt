@@ -19,11 +19,10 @@ use Rattle.auction_definitions.specs.declared.AuctionAnswer.the-variants.{Refus
 use Rattle.auction_definitions.specs.Auction.{auction, badOrder, buyersAfter, emptyLine, listsFit, placeLine, refusal, sellersAfter, sumsIn, volumeOf}
 use Rattle.auction_definitions.specs.Volumes.{auctionInOne, placeVolume, volumesAfter, volumesIn}
 use Rattle.auction_definitions.proofs.Accepted.{noOrder}
-use Rattle.auction_definitions.proofs.VolumePromises.{place-volume}
+use Rattle.auction_definitions.proofs.VolumePromises.{place-volume, zeros}
 use Rattle.auction_lines.specs.Lines.{answerOf}
 use Rattle.auction.specs.Turns.{bestAfter, clearedFrom}
 use Rattle.auction.proofs.Chosen.{chosen}
-use Rattle.auction.proofs.Cleared.{zeros}
 use Rattle.auction.proofs.Laws.{Candidates, Filled, Orders, filled-whole, nothing-filled}
 
 none-bad-all : (orders : List AuctionOrder) → (0 < length orders → any badOrder orders ≡ false) → any badOrder orders ≡ false

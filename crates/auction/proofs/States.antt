@@ -1,5 +1,5 @@
 -- What the walks of `price` and `price_and_volumes` carry along their loops, and small facts that they ask of what they have. No memory.
---     Places, PlacesInOne      the outer loop's state before the turn of place i, with what holds of it.        Passed       the inner loop's before order j is added
+--     Places       the outer loop's state before the turn of place i, with what holds of it.        Passed       the inner loop's before order j is added
 --     past k b     a body behind its first k statements
 --     order-typed, line-typed, answer-typed        a value that fits its type may be stored in a local of that type
 -- Assumes nothing, but that `answer-typed` takes `Given`.
@@ -20,14 +20,13 @@ use denote.Struct.Laws as LL
 use Rattle.auction_definitions.specs.declared.AuctionAnswer.{AuctionAnswer}
 use Rattle.auction_definitions.specs.declared.AuctionOrder.{AuctionOrder}
 use Rattle.auction_definitions.specs.declared.Line.{Line}
-use Rattle.auction_definitions.specs.Auction.{volumeOf}
 use Rattle.auction_definitions.proofs.AuctionAnswer as N
 use Rattle.auction_definitions.proofs.AuctionAnswer.Laws as N′
 use Rattle.auction_definitions.proofs.AuctionOrder as O
 use Rattle.auction_definitions.proofs.AuctionOrder.Laws as O′
 use Rattle.auction_definitions.proofs.Line as L
 use Rattle.auction_definitions.proofs.Line.Laws as L′
-use Rattle.auction.proofs.Laws.{Candidates, Filled, Orders}
+use Rattle.auction.proofs.Laws.{Candidates, Orders}
 
 -- what follows the first k parts of a sequence, which the generated MIR has under no name
 abbrev after : Body → Body
@@ -59,20 +58,12 @@ pub holds-twice : (t : Bool) → Holds (not (not t)) → t ≡ true
 holds-twice true _ = refl
 holds-twice false h = absurd h
 
-pub record Places (orders : List AuctionOrder) (reference : ℕ) (buyers sellers : List ℕ) : Type 0 where
+-- with what is known of the scratch lists at that place
+pub record Places (orders : List AuctionOrder) (reference : ℕ) (Lists : ℕ → Type 0) : Type 0 where
   pub i : ℕ
   pub best : Line
   pub at : Candidates orders reference i best
-  pub bs : Filled (λ l. l .buyers) orders buyers i
-  pub ss : Filled (λ l. l .sellers) orders sellers i
-  pub best-is : Is L.the-row best (L′.lowered best ∷ [])
-
--- the same with one scratch list
-pub record PlacesInOne (orders : List AuctionOrder) (reference : ℕ) (volumes : List ℕ) : Type 0 where
-  pub i : ℕ
-  pub best : Line
-  pub at : Candidates orders reference i best
-  pub vs : Filled volumeOf orders volumes i
+  pub lists : Lists i
   pub best-is : Is L.the-row best (L′.lowered best ∷ [])
 
 pub record Passed (orders : List AuctionOrder) (i : ℕ) : Type 0 where

@@ -17,7 +17,7 @@ unfoldable pub bestAfter : ℕ → List AuctionOrder → Line → List AuctionOr
 bestAfter reference orders best [] = best
 bestAfter reference orders best (o ∷ os) = bestAfter reference orders (betterOf reference (placeLine orders o) best) os
 
--- a scratch list with the sums of the first places
+-- a scratch list with a number of the line of each of the first places, a sum or the volume
 unfoldable pub filledTo : (Line → ℕ) → List AuctionOrder → ℕ → List ℕ → List ℕ
 filledTo sum orders i scratch = map (λ o. sum (placeLine orders o)) (take i orders) ++ drop i scratch
 

@@ -34,7 +34,7 @@ unfolding auctionInOne auction refusal
 given-before orders reference volumes buyers sellers e =
     rw (same-fit (leb (length orders) maxOrders) (leb maxOrders (length volumes)) (leb maxOrders (length buyers)) (leb maxOrders (length sellers)) e)
 
-abbrev zeros : ℕ → List ℕ
+abbrev pub zeros : ℕ → List ℕ
 zeros k = replicate k 0
 
 -- zeros behind a list change nothing that is read from it

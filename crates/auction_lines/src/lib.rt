@@ -1,4 +1,4 @@
-// Paper 02, 5: one order, one line, and two lines held against each other. Nothing here is handed a list, only how long lists are and which place has its turn.
+// Paper 02, 5 and 6: one order, one line, and two lines held against each other. Nothing here is handed a list, only how long lists are and which place has its turn.
 ghost use mathlib.Core.Path.{_≡_};
 ghost use mathlib.Core.Bool.{cond, not, _&&_, _||_};
 ghost use Prim.Native.Nat.{_+_, _<_, _^_, min};

@@ -16,8 +16,8 @@ pub struct AuctionOrder {
     pub volume: u32,
 }
 
-/// The answer of [`auction`] and of [`auction_volumes`]: a price above 0 with its volume, or both 0 for none;
-/// or the number of a refusal, and then both are 0.
+/// The answer of [`auction`] and of [`auction_volumes`]: a price above 0 with its
+/// volume, or both 0 for none; or the number of a refusal, and then both are 0.
 #[repr(C)]
 #[derive(Clone, Copy, Debug, PartialEq, Eq)]
 pub struct AuctionNumbers {

@@ -86,7 +86,7 @@ use Rattle.auction_lines.proofs.answer_of.Symbol.{name as #answer-of}
 use Rattle.auction_lines.proofs.answer_of.Met as answer-of-thm
 use Rattle.auction.proofs.Calls.{ListsFit, EmptyLine, BadAtFirst, WithOrder, Better, AnswerOf, calls-lists-fit, calls-empty-line, calls-bad-at-first, calls-with-order, calls-better, calls-answer-of}
 use Rattle.auction.proofs.States.{Places, Passed, past, holds, fails, holds-twice, order-typed, line-typed, answer-typed}
-use Rattle.auction.proofs.Laws.{Orders, candidates-start, candidates-next, filled-start, filled-next, orders-start, orders-next, small}
+use Rattle.auction.proofs.Laws.{Filled, Orders, candidates-start, candidates-next, filled-start, filled-next, orders-start, orders-next, small}
 use Rattle.auction.proofs.Promised.{Promised, promised, promised-bad, promised-unfit}
 use Rattle.auction.proofs.price.Key.{name as #auction·price}
 use Rattle.auction.proofs.price as price
@@ -159,7 +159,7 @@ module _ {M : Type 1} (𝓤 : URA M) (H : Heap 𝓤) (A : Atoms 𝓤) (W : Given
   Post = walkOf 𝓤 H A price.ended stayed (price.clauses 𝓤 H A mem run) .post (((κ₀, (κ₁, (κ₂, tt))), (q₀, (q₁, (q₂, tt))), tt, a, vals), tt)
 
   abbrev State : Type 0
-  State = Places os reference bs₀ ss₀
+  State = Places os reference (λ i. Filled (λ l. l .buyers) os bs₀ i × Filled (λ l. l .sellers) os ss₀ i)
 
   -- what the function owns while no borrow is open, at the lists bs and ss
   abbrev Owned : List ℕ → List ℕ → List (Item 𝓤) → List (Item 𝓤)
@@ -250,7 +250,7 @@ module _ {M : Type 1} (𝓤 : URA M) (H : Heap 𝓤) (A : Atoms 𝓤) (W : Given
 
         -- before the turn of place i, and after the loops
         abbrev Out : Bool → State → List (Item 𝓤)
-        Out bad t = Cx bad (t .best) (t .i) (t .bs .list) (t .ss .list) (empty L′.mir l₉) (empty (tyInt w64) l₁₀)
+        Out bad t = Cx bad (t .best) (t .i) (t .lists .0 .list) (t .lists .1 .list) (empty L′.mir l₉) (empty (tyInt w64) l₁₀)
 
         module _ (fits : n ≤ 1_024) where
           -- the inner loop
@@ -307,7 +307,7 @@ module _ {M : Type 1} (𝓤 : URA M) (H : Heap 𝓤) (A : Atoms 𝓤) (W : Given
 
           -- the outer loop
           module _ (fit : listsFit n (length bs₀) (length ss₀) ≡ true) (Q : Kit.Post 𝓤 H)
-              (to-tail : (bad : Bool) (t : State) → Promised os reference bs₀ ss₀ (answerOf bad (t .best)) (t .bs .list) (t .ss .list) → Sq W (Out bad t) (prop (post 𝓤 H Q next))) where
+              (to-tail : (bad : Bool) (t : State) → Promised os reference bs₀ ss₀ (answerOf bad (t .best)) (t .lists .0 .list) (t .lists .1 .list) → Sq W (Out bad t) (prop (post 𝓤 H Q next))) where
             abbrev places-left : State → ℕ
             places-left t = n - t .i
 
@@ -322,7 +322,7 @@ module _ {M : Type 1} (𝓤 : URA M) (H : Heap 𝓤) (A : Atoms 𝓤) (W : Given
             Stored t = anyQ (afterSeq 𝓤 H (Wp 𝓤 H (𝓣 .C) (𝓣 .Λ) E (past 8 body.turn-2) (post 𝓤 H (After-place t))) (post 𝓤 H (After-place t)))
 
             -- that rest: the line's sums are stored at place i, and the better line is kept
-            place-ends : (t : State) → t .i < n → (u : Passed os (t .i)) → u .j ≡ n → Sq W (In (t .best) (t .i) (t .bs .list) (t .ss .list) false u) (prop (post 𝓤 H (Stored t) next))
+            place-ends : (t : State) → t .i < n → (u : Passed os (t .i)) → u .j ≡ n → Sq W (In (t .best) (t .i) (t .lists .0 .list) (t .lists .1 .list) false u) (prop (post 𝓤 H (Stored t) next))
             unfolding afterTurn
             place-ends t i-small u e =
                 let i = t .i in
@@ -330,26 +330,26 @@ module _ {M : Type 1} (𝓤 : URA M) (H : Heap 𝓤) (A : Atoms 𝓤) (W : Given
                 let big = sizes n (length bs₀) (length ss₀) fit in
                 let far : i * 8 < 2 ^ 64 = omega (arith, i-small, fits) in
                 let step : i + 1 < 2 ^ 64 = omega (arith, i-small, fits) in
-                let i-bs : i < length (t .bs .list) = omega (arith, i-small, big .0, big .1, t .bs .long) in
-                let i-ss : i < length (t .ss .list) = omega (arith, i-small, big .0, big .2, t .ss .long) in
+                let i-bs : i < length (t .lists .0 .list) = omega (arith, i-small, big .0, big .1, t .lists .0 .long) in
+                let i-ss : i < length (t .lists .1 .list) = omega (arith, i-small, big .0, big .2, t .lists .1 .long) in
                 let b-is : line .buyers < 2 ^ 64 = line-typed line (u .line-is) .1 .1 .0 .fits in
                 let s-is : line .sellers < 2 ^ 64 = line-typed line (u .line-is) .1 .1 .1 .0 .fits in
                 exec ! (𝓣 .C) (𝓣 .Λ) E (past 8 body.turn-2) (After-place t) $
                 assigns ! (bin ! (load ! (from ! (stop !)) (look ! 11 refl)) (lit ! tt) (record { fits = far })) (from ! (stop !)) (init ! 20 refl (tt, record { fits = far })) $
                 assigns ! (bin ! (load ! (from ! (fld ! refl (stop !))) (look-in ! 6 (sub ! 0 refl (whole !)))) (load ! (from ! (stop !)) (look ! 20 refl)) tt) (from ! (stop !)) (init ! 28 refl (tt, tt)) $
                 rewrite ! 28 (λ (p : ℕ). ‵ (fat fullShare tyPtr l₂₅ 0 (vptr b₁ p))) (sym (place-is 8 o₁ i)) refl $
-                move ! (1 ∷ []) $ elem-out ! u64 (Is u64) (shows 𝓤 H A u64) (uint-vals w64) (uint-tells w64) fullShare (t .bs .list) i 0 b₁ o₁ i-bs (λ _.
+                move ! (1 ∷ []) $ elem-out ! u64 (Is u64) (shows 𝓤 H A u64) (uint-vals w64) (uint-tells w64) fullShare (t .lists .0 .list) i 0 b₁ o₁ i-bs (λ _.
                 -- [buyers[i]; what it owns; the others; the orders; the sellers' list; the locals]
                 assigns ! (of-opd ! (load ! (from ! (fld ! refl (stop !))) (look-in ! 14 (sub ! 1 refl (whole !))))) (from ! (hop ! (look ! 30 refl) (stop !))) (store ! 0 refl (tt, record { fits = b-is })) $
-                move ! (1 ∷ []) $ drop ! $ owned ! u64 (Is u64) (uint-makes 𝓤 H A W w64) (line .buyers) _ (refl, b-is) $ move ! (1 ∷ 0 ∷ []) $ elem-put ! u64 fullShare (t .bs .list) i (line .buyers) (vint w64 (line .buyers) ∷ []) b₁ o₁ i-bs $
+                move ! (1 ∷ []) $ drop ! $ owned ! u64 (Is u64) (uint-makes 𝓤 H A W w64) (line .buyers) _ (refl, b-is) $ move ! (1 ∷ 0 ∷ []) $ elem-put ! u64 fullShare (t .lists .0 .list) i (line .buyers) (vint w64 (line .buyers) ∷ []) b₁ o₁ i-bs $
                 move ! (1 ∷ []) $
                 assigns ! (bin ! (load ! (from ! (stop !)) (look ! 11 refl)) (lit ! tt) (record { fits = far })) (from ! (stop !)) (store ! 20 refl (tt, record { fits = far })) $
                 assigns ! (bin ! (load ! (from ! (fld ! refl (stop !))) (look-in ! 7 (sub ! 0 refl (whole !)))) (load ! (from ! (stop !)) (look ! 20 refl)) tt) (from ! (stop !)) (init ! 29 refl (tt, tt)) $
                 rewrite ! 29 (λ (p : ℕ). ‵ (fat fullShare tyPtr l₂₆ 0 (vptr b₂ p))) (sym (place-is 8 o₂ i)) refl $
-                move ! (2 ∷ []) $ elem-out ! u64 (Is u64) (shows 𝓤 H A u64) (uint-vals w64) (uint-tells w64) fullShare (t .ss .list) i 0 b₂ o₂ i-ss (λ _.
+                move ! (2 ∷ []) $ elem-out ! u64 (Is u64) (shows 𝓤 H A u64) (uint-vals w64) (uint-tells w64) fullShare (t .lists .1 .list) i 0 b₂ o₂ i-ss (λ _.
                 -- [sellers[i]; what it owns; the others; the orders; the buyers' list; the locals]
                 assigns ! (of-opd ! (load ! (from ! (fld ! refl (stop !))) (look-in ! 14 (sub ! 2 refl (whole !))))) (from ! (hop ! (look ! 31 refl) (stop !))) (store ! 0 refl (tt, record { fits = s-is })) $
-                move ! (1 ∷ []) $ drop ! $ owned ! u64 (Is u64) (uint-makes 𝓤 H A W w64) (line .sellers) _ (refl, s-is) $ move ! (1 ∷ 0 ∷ []) $ elem-put ! u64 fullShare (t .ss .list) i (line .sellers) (vint w64 (line .sellers) ∷ []) b₂ o₂ i-ss $
+                move ! (1 ∷ []) $ drop ! $ owned ! u64 (Is u64) (uint-makes 𝓤 H A W w64) (line .sellers) _ (refl, s-is) $ move ! (1 ∷ 0 ∷ []) $ elem-put ! u64 fullShare (t .lists .1 .list) i (line .sellers) (vint w64 (line .sellers) ∷ []) b₂ o₂ i-ss $
                 move ! (1 ∷ 2 ∷ []) $
                 calls-better 𝓤 H A W mem run reference line (t .best) ! fm known-better ok (u .line-is) (t .best-is) (and-then ! (load ! (from ! (stop !)) (look ! 5 refl)) (and-then ! (load ! (from ! (stop !)) (look ! 12 refl)) (and-then ! (load ! (from ! (stop !)) (look ! 9 refl)) (no-more !)))) (λ best-is.
                 land ! (from ! (stop !)) (store ! 9 refl (line-typed _ best-is)) $
@@ -360,8 +360,7 @@ module _ {M : Type 1} (𝓤 : URA M) (H : Heap 𝓤) (A : Atoms 𝓤) (W : Given
                   i = i + 1;
                   best = betterOf reference line (t .best);
                   at = candidates-next os reference (t .at) i-small done;
-                  bs = filled-next os (λ l. l .buyers) bs₀ (t .bs) i-small done (omega (arith, big .0, big .1));
-                  ss = filled-next os (λ l. l .sellers) ss₀ (t .ss) i-small done (omega (arith, big .0, big .2));
+                  lists = (filled-next os (λ l. l .buyers) bs₀ (t .lists .0) i-small done (omega (arith, big .0, big .1)), filled-next os (λ l. l .sellers) ss₀ (t .lists .1) i-small done (omega (arith, big .0, big .2)));
                   best-is = best-is;
                 }) (omega (arith, i-small)))))
 
@@ -388,12 +387,12 @@ module _ {M : Type 1} (𝓤 : URA M) (H : Heap 𝓤) (A : Atoms 𝓤) (W : Given
                 land ! (from ! (stop !)) (init ! 12 refl (line-typed _ line-is)) $
                 assigns ! (of-opd ! (lit ! tt)) (from ! (stop !)) (init ! 13 refl (tt, record { fits = lit< tt })) $
                 forget ! 19 refl $ forget ! 20 refl $ forget ! 21 refl $ forget ! 22 refl $ first ! $
-                orders-pass (t .best) i (t .bs .list) (t .ss .list) i-small (Stored t) (place-ends t i-small)
-                (λ u j-small bad. forget ! 12 refl $ forget ! 13 refl $ to-tail true t (promised-bad os reference bs₀ ss₀ (t .best) fit (u .at) j-small bad (t .bs) (t .ss)))
+                orders-pass (t .best) i (t .lists .0 .list) (t .lists .1 .list) i-small (Stored t) (place-ends t i-small)
+                (λ u j-small bad. forget ! 12 refl $ forget ! 13 refl $ to-tail true t (promised-bad os reference bs₀ ss₀ (t .best) fit (u .at) j-small bad (t .lists .0) (t .lists .1)))
                 (record { j = 0; line = emptyLine (o .price); at = orders-start os i i-small; line-is = line-is }))))
                 -- every place was passed
                 (λ h. jumps ! $ forget ! 19 refl $ to-tail false t
-                (promised os reference bs₀ ss₀ fit (omega (arith, nltb→le i n h, t .at .within)) (t .at) (t .bs) (t .ss)))
+                (promised os reference bs₀ ss₀ fit (omega (arith, nltb→le i n h, t .at .within)) (t .at) (t .lists .0) (t .lists .1)))
 
             places-pass : (t : State) → Sq W (Out false t) (runs (𝓣 .C) (𝓣 .Λ) E (block (loop body.turn-2)) Q)
             places-pass t = blocks ! $ loops ! 𝓣 ≺ₚ (InvImage·wf places-left (Nat·lt-wfRel .wf)) (Out false) place-turn t
@@ -406,16 +405,16 @@ module _ {M : Type 1} (𝓤 : URA M) (H : Heap 𝓤) (A : Atoms 𝓤) (W : Given
           ∷ ‵ (fres (xo .name) (codedHoleys O.the-row .code (heres O.the-row os))) ∷ Dies
 
       -- after the loops: the answer is made, the borrows are closed, and the function returns
-      tail : (q : Share) (bad : Bool) (t : State) → Promised os reference bs₀ ss₀ (answerOf bad (t .best)) (t .bs .list) (t .ss .list) → Sq W (Out q (Open q) bad t) (runs (𝓣 .C) (𝓣 .Λ) E body.t-11 (atRet E Post))
+      tail : (q : Share) (bad : Bool) (t : State) → Promised os reference bs₀ ss₀ (answerOf bad (t .best)) (t .lists .0 .list) (t .lists .1 .list) → Sq W (Out q (Open q) bad t) (runs (𝓣 .C) (𝓣 .Λ) E body.t-11 (atRet E Post))
       tail q bad t promise =
           calls-answer-of 𝓤 H A W mem run bad (t .best) ! fm known-answer-of (t .best-is) (and-then ! (load ! (from ! (stop !)) (look ! 10 refl)) (and-then ! (load ! (from ! (stop !)) (look ! 9 refl)) (no-more !))) (λ is.
           land ! (from ! (stop !)) (init ! 3 refl (answer-typed 𝓤 H A W (answerOf bad (t .best)) is)) $
           move ! (0 ∷ 30 ∷ []) $ shuts-slice ! tt O.the-row q os b₀ o₀ $
           -- [the orders' token; the buyers' list; the sellers'; the locals; the fractured borrow; what closes the other two; …]
-          move ! (1 ∷ 31 ∷ 32 ∷ 33 ∷ []) $ closes-slice ! tt u64 bs₀ (t .bs .list) (t .bs .long) b₁ o₁ $
-          move ! (4 ∷ 33 ∷ 34 ∷ 35 ∷ []) $ closes-slice ! tt u64 ss₀ (t .ss .list) (t .ss .long) b₂ o₂ $ move ! (34 ∷ 35 ∷ []) $
+          move ! (1 ∷ 31 ∷ 32 ∷ 33 ∷ []) $ closes-slice ! tt u64 bs₀ (t .lists .0 .list) (t .lists .0 .long) b₁ o₁ $
+          move ! (4 ∷ 33 ∷ 34 ∷ 35 ∷ []) $ closes-slice ! tt u64 ss₀ (t .lists .1 .list) (t .lists .1 .long) b₂ o₂ $ move ! (34 ∷ 35 ∷ []) $
           forget ! 10 refl $ forget ! 11 refl $ forget ! 12 refl $ forget ! 13 refl $ forget ! 14 refl $ forget ! 15 refl $ forget ! 16 refl $ forget ! 17 refl $
-          leaves (atRet E Post) refl (answerOf bad (t .best)) (t .bs .list) (t .ss .list) is (t .bs .long) (t .ss .long) promise)
+          leaves (atRet E Post) refl (answerOf bad (t .best)) (t .lists .0 .list) (t .lists .1 .list) is (t .lists .0 .long) (t .lists .1 .long) promise)
 
       -- from the first statement on: local k stands at 9 + k
       starts : Sq W (Owned bs₀ ss₀ (Locals (empty N′.mir l₀) (empty (tyInt w64) l₅) (empty L′.mir l₆) (empty tyBool l₇) (empty (tyInt w64) l₈) (empty L′.mir l₉) (empty (tyInt w64) l₁₀) Dies)) (runs (𝓣 .C) (𝓣 .Λ) E body.t-1 (atRet E Post))
@@ -447,7 +446,7 @@ module _ {M : Type 1} (𝓤 : URA M) (H : Heap 𝓤) (A : Atoms 𝓤) (W : Given
           move ! (0 ∷ 3 ∷ 7 ∷ 12 ∷ 13 ∷ 14 ∷ 15 ∷ 16 ∷ 17 ∷ 18 ∷ 19 ∷ 20 ∷ 21 ∷ 22 ∷ 23 ∷ 24 ∷ 25 ∷ 26 ∷ 27 ∷ 28 ∷ 29 ∷ 30 ∷ 31 ∷ 32 ∷ 33 ∷ 34 ∷ 35 ∷ 36 ∷ 37 ∷ 38 ∷ []) $ first ! $
           places-pass q (Open q) (sizes n (length bs₀) (length ss₀) (holds-twice fit fits) .0) (holds-twice fit fits) (anyQ (afterSeq 𝓤 H (Wp 𝓤 H (𝓣 .C) (𝓣 .Λ) E body.t-11 (atReturn 𝓤 H E Post)) (atReturn 𝓤 H E Post)))
           (λ bad t promise. exec ! (𝓣 .C) (𝓣 .Λ) E body.t-11 (atRet E Post) $ tail q bad t promise)
-          (record { i = 0; best = emptyLine 0; at = candidates-start os reference; bs = filled-start os (λ l. l .buyers) bs₀; ss = filled-start os (λ l. l .sellers) ss₀; best-is = best-is })))))
+          (record { i = 0; best = emptyLine 0; at = candidates-start os reference; lists = (filled-start os (λ l. l .buyers) bs₀, filled-start os (λ l. l .sellers) ss₀); best-is = best-is })))))
 
     -- the MIR from the entry on: the locals are made, and what the parameters own is taken apart
     walk : ent 𝓤 (onEntry 𝓤 H A price.signature (κ₀, (κ₁, (κ₂, tt))) (q₀, (q₁, (q₂, tt))) a vals) (WpFn 𝓤 H (𝓣 .C) (𝓣 .Λ) code.function (vo ∷ vint w32 reference ∷ vb ∷ vs ∷ []) Post)

@@ -92,8 +92,8 @@ use Rattle.auction.proofs.volumes.clear_from.Symbol as clear-from-def
 use Rattle.auction.proofs.volumes.clear_from.Symbol.{name as #clear-from}
 use Rattle.auction.proofs.volumes.clear_from.Met as clear-from-thm
 use Rattle.auction.proofs.Calls.{ListsFit, EmptyLine, BadAtFirst, WithOrder, VolumeOf, Better, AnswerOf, calls-lists-fit, calls-empty-line, calls-bad-at-first, calls-with-order, calls-volume-of, calls-better, calls-answer-of}
-use Rattle.auction.proofs.States.{PlacesInOne, Passed, past, holds, fails, holds-twice, order-typed, line-typed, answer-typed}
-use Rattle.auction.proofs.Laws.{Orders, candidates-start, candidates-next, filled-start, filled-next, orders-start, orders-next, small}
+use Rattle.auction.proofs.States.{Places, Passed, past, holds, fails, holds-twice, order-typed, line-typed, answer-typed}
+use Rattle.auction.proofs.Laws.{Filled, Orders, candidates-start, candidates-next, filled-start, filled-next, orders-start, orders-next, small}
 use Rattle.auction.proofs.Promised.{PromisedInOne, promised-in-one, promised-bad-in-one, promised-unfit-in-one}
 use Rattle.auction.proofs.volumes.price_and_volumes.Key.{name as #price-and-volumes}
 use Rattle.auction.proofs.volumes.price_and_volumes as volumes
@@ -162,7 +162,7 @@ module _ {M : Type 1} (𝓤 : URA M) (H : Heap 𝓤) (A : Atoms 𝓤) (W : Given
   Post = walkOf 𝓤 H A volumes.ended stayed (volumes.clauses 𝓤 H A mem run) .post (((κ₀, (κ₁, tt)), (q₀, (q₁, tt)), tt, a, vals), tt)
 
   abbrev State : Type 0
-  State = PlacesInOne os reference vs₀
+  State = Places os reference (Filled volumeOf os vs₀)
 
   -- what the function owns while no borrow is open, at the list vs
   abbrev Owned : List ℕ → List (Item 𝓤) → List (Item 𝓤)
@@ -284,7 +284,7 @@ module _ {M : Type 1} (𝓤 : URA M) (H : Heap 𝓤) (A : Atoms 𝓤) (W : Given
 
         -- before the turn of place i, and after the loops
         abbrev Out : Bool → State → List (Item 𝓤)
-        Out bad t = Cx bad (t .best) (t .i) (t .vs .list) (empty L′.mir l₈) (empty (tyInt w64) l₉)
+        Out bad t = Cx bad (t .best) (t .i) (t .lists .list) (empty L′.mir l₈) (empty (tyInt w64) l₉)
 
         module _ (fits : n ≤ 1_024) where
           -- the inner loop
@@ -341,8 +341,8 @@ module _ {M : Type 1} (𝓤 : URA M) (H : Heap 𝓤) (A : Atoms 𝓤) (W : Given
 
           -- the outer loop
           module _ (fit : listsFit n (length vs₀) (length vs₀) ≡ true) (Q : Kit.Post 𝓤 H)
-              (to-tail : (t : State) → PromisedInOne os reference vs₀ (answerOf false (t .best)) (clearedFrom n (t .vs .list)) → Sq W (Out false t) (prop (post 𝓤 H Q next)))
-              (to-refusal : (t : State) → PromisedInOne os reference vs₀ (Refused 15) (t .vs .list) → Sq W (Out true t) (prop (post 𝓤 H Q next))) where
+              (to-tail : (t : State) → PromisedInOne os reference vs₀ (answerOf false (t .best)) (clearedFrom n (t .lists .list)) → Sq W (Out false t) (prop (post 𝓤 H Q next)))
+              (to-refusal : (t : State) → PromisedInOne os reference vs₀ (Refused 15) (t .lists .list) → Sq W (Out true t) (prop (post 𝓤 H Q next))) where
             abbrev places-left : State → ℕ
             places-left t = n - t .i
 
@@ -357,7 +357,7 @@ module _ {M : Type 1} (𝓤 : URA M) (H : Heap 𝓤) (A : Atoms 𝓤) (W : Given
             Stored t = anyQ (afterSeq 𝓤 H (Wp 𝓤 H (𝓣 .C) (𝓣 .Λ) E (past 8 body.turn-2) (post 𝓤 H (After-place t))) (post 𝓤 H (After-place t)))
 
             -- that rest: the line's volume is stored at place i, and the better line is kept
-            place-ends : (t : State) → t .i < n → (u : Passed os (t .i)) → u .j ≡ n → Sq W (In (t .best) (t .i) (t .vs .list) false u) (prop (post 𝓤 H (Stored t) next))
+            place-ends : (t : State) → t .i < n → (u : Passed os (t .i)) → u .j ≡ n → Sq W (In (t .best) (t .i) (t .lists .list) false u) (prop (post 𝓤 H (Stored t) next))
             unfolding afterTurn
             place-ends t i-small u e =
                 let i = t .i in
@@ -365,7 +365,7 @@ module _ {M : Type 1} (𝓤 : URA M) (H : Heap 𝓤) (A : Atoms 𝓤) (W : Given
                 let big = sizes n (length vs₀) (length vs₀) fit in
                 let far : i * 8 < 2 ^ 64 = omega (arith, i-small, fits) in
                 let step : i + 1 < 2 ^ 64 = omega (arith, i-small, fits) in
-                let i-vs : i < length (t .vs .list) = omega (arith, i-small, big .0, big .1, t .vs .long) in
+                let i-vs : i < length (t .lists .list) = omega (arith, i-small, big .0, big .1, t .lists .long) in
                 let done : Orders os i n line = subst (λ (k : ℕ). Orders os i k line) e (u .at) in
                 exec ! (𝓣 .C) (𝓣 .Λ) E (past 8 body.turn-2) (After-place t) $
                 calls-volume-of 𝓤 H A W mem run line ! fm known-volume-of (u .line-is) (and-then ! (load ! (from ! (stop !)) (look ! 10 refl)) (no-more !)) (λ v-is.
@@ -373,10 +373,10 @@ module _ {M : Type 1} (𝓤 : URA M) (H : Heap 𝓤) (A : Atoms 𝓤) (W : Given
                 assigns ! (bin ! (load ! (from ! (stop !)) (look ! 9 refl)) (lit ! tt) (record { fits = far })) (from ! (stop !)) (init ! 18 refl (tt, record { fits = far })) $
                 assigns ! (bin ! (load ! (from ! (fld ! refl (stop !))) (look-in ! 5 (sub ! 0 refl (whole !)))) (load ! (from ! (stop !)) (look ! 18 refl)) tt) (from ! (stop !)) (init ! 27 refl (tt, tt)) $
                 rewrite ! 27 (λ (p : ℕ). ‵ (fat fullShare tyPtr l₂₅ 0 (vptr b₁ p))) (sym (place-is 8 o₁ i)) refl $
-                move ! (1 ∷ []) $ elem-out ! u64 (Is u64) (shows 𝓤 H A u64) (uint-vals w64) (uint-tells w64) fullShare (t .vs .list) i 0 b₁ o₁ i-vs (λ _.
+                move ! (1 ∷ []) $ elem-out ! u64 (Is u64) (shows 𝓤 H A u64) (uint-vals w64) (uint-tells w64) fullShare (t .lists .list) i 0 b₁ o₁ i-vs (λ _.
                 -- [volumes[i]; what it owns; the others; the orders; the locals]
                 assigns ! (of-opd ! (load ! (from ! (stop !)) (look ! 28 refl))) (from ! (hop ! (look ! 29 refl) (stop !))) (store ! 0 refl (tt, record { fits = v-is .1 })) $
-                move ! (1 ∷ []) $ drop ! $ owned ! u64 (Is u64) (uint-makes 𝓤 H A W w64) (volumeOf line) _ (refl, v-is .1) $ move ! (1 ∷ 0 ∷ []) $ elem-put ! u64 fullShare (t .vs .list) i (volumeOf line) (vint w64 (volumeOf line) ∷ []) b₁ o₁ i-vs $
+                move ! (1 ∷ []) $ drop ! $ owned ! u64 (Is u64) (uint-makes 𝓤 H A W w64) (volumeOf line) _ (refl, v-is .1) $ move ! (1 ∷ 0 ∷ []) $ elem-put ! u64 fullShare (t .lists .list) i (volumeOf line) (vint w64 (volumeOf line) ∷ []) b₁ o₁ i-vs $
                 move ! (1 ∷ []) $
                 calls-better 𝓤 H A W mem run reference line (t .best) ! fm known-better ok (u .line-is) (t .best-is) (and-then ! (load ! (from ! (stop !)) (look ! 4 refl)) (and-then ! (load ! (from ! (stop !)) (look ! 10 refl)) (and-then ! (load ! (from ! (stop !)) (look ! 7 refl)) (no-more !)))) (λ best-is.
                 land ! (from ! (stop !)) (store ! 7 refl (line-typed _ best-is)) $
@@ -386,7 +386,7 @@ module _ {M : Type 1} (𝓤 : URA M) (H : Heap 𝓤) (A : Atoms 𝓤) (W : Given
                   i = i + 1;
                   best = betterOf reference line (t .best);
                   at = candidates-next os reference (t .at) i-small done;
-                  vs = filled-next os volumeOf vs₀ (t .vs) i-small done (omega (arith, big .0, big .1));
+                  lists = filled-next os volumeOf vs₀ (t .lists) i-small done (omega (arith, big .0, big .1));
                   best-is = best-is;
                 }) (omega (arith, i-small)))))
 
@@ -413,12 +413,12 @@ module _ {M : Type 1} (𝓤 : URA M) (H : Heap 𝓤) (A : Atoms 𝓤) (W : Given
                 land ! (from ! (stop !)) (init ! 10 refl (line-typed _ line-is)) $
                 assigns ! (of-opd ! (lit ! tt)) (from ! (stop !)) (init ! 11 refl (tt, record { fits = lit< tt })) $
                 forget ! 17 refl $ forget ! 18 refl $ forget ! 19 refl $ forget ! 20 refl $ first ! $
-                orders-pass (t .best) i (t .vs .list) i-small (Stored t) (place-ends t i-small)
-                (λ u j-small bad. forget ! 10 refl $ forget ! 11 refl $ to-refusal t (promised-bad-in-one os reference vs₀ fit (u .at) j-small bad (t .vs)))
+                orders-pass (t .best) i (t .lists .list) i-small (Stored t) (place-ends t i-small)
+                (λ u j-small bad. forget ! 10 refl $ forget ! 11 refl $ to-refusal t (promised-bad-in-one os reference vs₀ fit (u .at) j-small bad (t .lists)))
                 (record { j = 0; line = emptyLine (o .price); at = orders-start os i i-small; line-is = line-is }))))
                 -- every place was passed
                 (λ h. jumps ! $ forget ! 17 refl $ to-tail t
-                (promised-in-one os reference vs₀ fit (omega (arith, nltb→le i n h, t .at .within)) (t .at) (t .vs)))
+                (promised-in-one os reference vs₀ fit (omega (arith, nltb→le i n h, t .at .within)) (t .at) (t .lists)))
 
             places-pass : (t : State) → Sq W (Out false t) (runs (𝓣 .C) (𝓣 .Λ) E (block (loop body.turn-2)) Q)
             places-pass t = blocks ! $ loops ! 𝓣 ≺ₚ (InvImage·wf places-left (Nat·lt-wfRel .wf)) (Out false) place-turn t
@@ -431,35 +431,35 @@ module _ {M : Type 1} (𝓤 : URA M) (H : Heap 𝓤) (A : Atoms 𝓤) (W : Given
 
       -- after the loops both borrows are closed
       abbrev Closed : Bool → State → List (Item 𝓤)
-      Closed bad t = Owned (t .vs .list) (Locals (empty N′.mir l₀) (full (tyInt w64) l₄ (vint w64 n)) (full L′.mir l₅ (L′.lowered (t .best))) (full tyBool l₆ (vbool bad)) (full (tyInt w64) l₇ (vint w64 (t .i))) (empty L′.mir l₈) (empty (tyInt w64) l₉) Dies)
+      Closed bad t = Owned (t .lists .list) (Locals (empty N′.mir l₀) (full (tyInt w64) l₄ (vint w64 n)) (full L′.mir l₅ (L′.lowered (t .best))) (full tyBool l₆ (vbool bad)) (full (tyInt w64) l₇ (vint w64 (t .i))) (empty L′.mir l₈) (empty (tyInt w64) l₉) Dies)
 
       closes : (q : Share) (bad : Bool) (t : State) → Sq W (Closed bad t) (runs (𝓣 .C) (𝓣 .Λ) E body.t-11 (atRet E Post)) → Sq W (Out q (Open q) bad t) (runs (𝓣 .C) (𝓣 .Λ) E body.t-11 (atRet E Post))
       closes q bad t rest =
           move ! (0 ∷ 31 ∷ []) $ shuts-slice ! tt O.the-row q os b₀ o₀ $
           -- [the orders' token; the volumes; the locals; the fractured borrow; what closes the other; …]
-          move ! (1 ∷ 32 ∷ 33 ∷ 34 ∷ []) $ closes-slice ! tt u64 vs₀ (t .vs .list) (t .vs .long) b₁ o₁ $ move ! (33 ∷ 34 ∷ []) $ rest
+          move ! (1 ∷ 32 ∷ 33 ∷ 34 ∷ []) $ closes-slice ! tt u64 vs₀ (t .lists .list) (t .lists .long) b₁ o₁ $ move ! (33 ∷ 34 ∷ []) $ rest
 
       -- a bad order was met
-      refuses : (t : State) → PromisedInOne os reference vs₀ (Refused 15) (t .vs .list) → Sq W (Closed true t) (runs (𝓣 .C) (𝓣 .Λ) E body.t-11 (atRet E Post))
+      refuses : (t : State) → PromisedInOne os reference vs₀ (Refused 15) (t .lists .list) → Sq W (Closed true t) (runs (𝓣 .C) (𝓣 .Λ) E body.t-11 (atRet E Post))
       refuses t promise =
           assigns ! (of-opd ! (load ! (from ! (stop !)) (look ! 12 refl))) (from ! (stop !)) (init ! 17 refl (tt, tt)) $
           first ! $ branches ! (load ! (from ! (stop !)) (look ! 17 refl))
           (λ _. assigns ! (agg ! (and-then ! (lit ! tt) (and-then ! (lit ! tt) (no-more !)))) (from ! (stop !)) (init ! 6 refl (tt, (record { fits = lit< tt }, (record { fits = lit< tt }, tt)))) $
           forget ! 7 refl $ forget ! 8 refl $ forget ! 9 refl $ forget ! 10 refl $ forget ! 11 refl $ forget ! 12 refl $ forget ! 13 refl $ forget ! 17 refl $
-          keeps _ refl 15 (t .vs .list) (lit< tt) (t .vs .long) promise)
+          keeps _ refl 15 (t .lists .list) (lit< tt) (t .lists .long) promise)
           (λ other. absurd other)
 
       -- none was: the list is given up to `clear_from`, and the answer is made
-      tail : (t : State) → PromisedInOne os reference vs₀ (answerOf false (t .best)) (clearedFrom n (t .vs .list)) → Sq W (Closed false t) (runs (𝓣 .C) (𝓣 .Λ) E body.t-11 (atRet E Post))
+      tail : (t : State) → PromisedInOne os reference vs₀ (answerOf false (t .best)) (clearedFrom n (t .lists .list)) → Sq W (Closed false t) (runs (𝓣 .C) (𝓣 .Λ) E body.t-11 (atRet E Post))
       tail t promise =
-          let vs = t .vs .list in
+          let vs = t .lists .list in
           assigns ! (of-opd ! (load ! (from ! (stop !)) (look ! 12 refl))) (from ! (stop !)) (init ! 17 refl (tt, tt)) $
           first ! $ branches ! (load ! (from ! (stop !)) (look ! 17 refl))
           (λ other. absurd other)
           (λ _. skips ! $ exec ! (𝓣 .C) (𝓣 .Λ) E (past 2 body.t-11) (atRet E Post) $
           assigns ! (addr ! (from ! (fld ! refl (hop ! (look-in ! 9 (sub ! 0 refl (whole !))) (stop !))))) (from ! (stop !)) (init ! 33 refl (tt, tt)) $
           assigns ! (agg ! (and-then ! (load ! (from ! (stop !)) (look ! 33 refl)) (and-then ! (load ! (from ! (fld ! refl (stop !))) (look-in ! 9 (sub ! 1 refl (whole !)))) (no-more !)))) (from ! (stop !)) (init ! 34 refl (tt, (tt, (record { fits = room₁ .0 }, tt)))) $
-          move ! (2 ∷ 3 ∷ 4 ∷ []) $ use3 W (raw (ClearFrom 𝓤 H A mem run .pre (to-clear-from vs))) (goes-clear-from vs (t .vs .long)) $
+          move ! (2 ∷ 3 ∷ 4 ∷ []) $ use3 W (raw (ClearFrom 𝓤 H A mem run .pre (to-clear-from vs))) (goes-clear-from vs (t .lists .long)) $
           -- [what `clear_from` asks; the fractured borrow; its res; the orders' token; the locals]
           calls-at ! fm (ClearFrom 𝓤 H A mem run) known-clear-from (to-clear-from vs) (and-then ! (load ! (from ! (stop !)) (look ! 32 refl)) (and-then ! (load ! (from ! (stop !)) (look ! 8 refl)) (no-more !))) (λ u.
           use1 W (later (some (λ (r : Unit {0}). ((‵ (flft κ₁ q₁) ⊛ ‵ ftrue) ⊛ ‵ (unit .own r (u ∷ []))) ⊛ raw (ensured 𝓤 H A clear-from.ended (clear-from.clauses 𝓤 H A mem run) (κ₁, tt) (lent vs) tt r)))) (id⊢ 𝓤 _) $ await ! tt $ pick ! (λ r.
@@ -472,7 +472,7 @@ module _ {M : Type 1} (𝓤 : URA M) (H : Heap 𝓤) (A : Atoms 𝓤) (W : Given
           calls-answer-of 𝓤 H A W mem run false (t .best) ! fm known-answer-of (t .best-is) (and-then ! (false-lit !) (and-then ! (load ! (from ! (stop !)) (look ! 10 refl)) (no-more !))) (λ is-answer.
           land ! (from ! (stop !)) (init ! 5 refl (answer-typed 𝓤 H A W (answerOf false (t .best)) is-answer)) $
           forget ! 6 refl $ forget ! 7 refl $ forget ! 8 refl $ forget ! 9 refl $ forget ! 10 refl $ forget ! 11 refl $ forget ! 12 refl $ forget ! 16 refl $ forget ! 31 refl $ forget ! 32 refl $ forget ! 33 refl $
-          leaves (atRet E Post) refl (answerOf false (t .best)) (zs .0) is-answer (l ∙ t .vs .long) (promise .0, e ∙ promise .1)))))))))
+          leaves (atRet E Post) refl (answerOf false (t .best)) (zs .0) is-answer (l ∙ t .lists .long) (promise .0, e ∙ promise .1)))))))))
 
       -- from the first statement on: local k stands at 6 + k
       starts : Sq W (Owned vs₀ (Locals (empty N′.mir l₀) (empty (tyInt w64) l₄) (empty L′.mir l₅) (empty tyBool l₆) (empty (tyInt w64) l₇) (empty L′.mir l₈) (empty (tyInt w64) l₉) Dies)) (runs (𝓣 .C) (𝓣 .Λ) E body.t-1 (atRet E Post))
@@ -504,7 +504,7 @@ module _ {M : Type 1} (𝓤 : URA M) (H : Heap 𝓤) (A : Atoms 𝓤) (W : Given
           places-pass q (Open q) (sizes n (length vs₀) (length vs₀) (holds-twice fit fits) .0) (holds-twice fit fits) (anyQ (afterSeq 𝓤 H (Wp 𝓤 H (𝓣 .C) (𝓣 .Λ) E body.t-11 (atReturn 𝓤 H E Post)) (atReturn 𝓤 H E Post)))
           (λ t promise. exec ! (𝓣 .C) (𝓣 .Λ) E body.t-11 (atRet E Post) $ closes q false t (tail t promise))
           (λ t promise. exec ! (𝓣 .C) (𝓣 .Λ) E body.t-11 (atRet E Post) $ closes q true t (refuses t promise))
-          (record { i = 0; best = emptyLine 0; at = candidates-start os reference; vs = filled-start os volumeOf vs₀; best-is = best-is })))))
+          (record { i = 0; best = emptyLine 0; at = candidates-start os reference; lists = filled-start os volumeOf vs₀; best-is = best-is })))))
 
     -- the MIR from the entry on: the locals are made, and what the parameters own is taken apart
     walk : ent 𝓤 (onEntry 𝓤 H A volumes.signature (κ₀, (κ₁, tt)) (q₀, (q₁, tt)) a vals) (WpFn 𝓤 H (𝓣 .C) (𝓣 .Λ) code.function (vo ∷ vint w32 reference ∷ vv ∷ []) Post)
