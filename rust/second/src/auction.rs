@@ -30,7 +30,7 @@ impl Order {
 
     /// Turned away with 15: "a side not 0 or 1, a price neither 0 nor legal, or
     /// a volume outside 1 to 20,000,000".
-    fn is_sound(&self) -> bool {
+    pub(crate) fn is_sound(&self) -> bool {
         Side::from_code(self.side).is_some()
             && (!self.is_limit() || ladder::legal(self.price))
             && (1..=MAX_VOLUME).contains(&self.volume)
@@ -141,7 +141,7 @@ impl fmt::Display for Answer {
 
 /// "14 if the list is longer or a scratch list shorter, first; 15 for" an order
 /// that is not sound.
-fn check(orders: &[Order], scratch_lists: &[&[u64]]) -> Result<(), Refusal> {
+pub(crate) fn check(orders: &[Order], scratch_lists: &[&[u64]]) -> Result<(), Refusal> {
     let is_short = |scratch: &&[u64]| scratch.len() < SCRATCH_PLACES;
     if orders.len() > MAX_ORDERS || scratch_lists.iter().any(is_short) {
         return Err(Refusal::Lists);
@@ -209,6 +209,11 @@ pub fn auction_volumes(orders: &[Order], reference: u32, volumes: &mut [u64]) ->
     if let Err(refusal) = check(orders, &[volumes]) {
         return refusal.into();
     }
+    choose_volumes(orders, reference, volumes)
+}
+
+/// Request 6's answer and scratch list for lists that `check` let pass.
+pub(crate) fn choose_volumes(orders: &[Order], reference: u32, volumes: &mut [u64]) -> Answer {
     volumes[orders.len()..].fill(0);
     choose(orders, reference, |place, sums| {
         volumes[place] = sums.volume();
