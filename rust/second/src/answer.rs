@@ -26,8 +26,8 @@ pub enum Answer {
     Refused(u8),
 }
 
-/// The conditions under which an event or an auction's list is turned back, with
-/// their numbers.
+/// The conditions under which an event or a call with an auction's list is turned
+/// back, with their numbers.
 #[derive(Clone, Copy, Debug, PartialEq, Eq)]
 pub enum Refusal {
     State = 1,
@@ -45,6 +45,7 @@ pub enum Refusal {
     Figures = 13,
     Lists = 14,
     ListedOrder = 15,
+    ListedPlace = 16,
 }
 
 impl From<Refusal> for Answer {

@@ -7,6 +7,7 @@
 pub mod answer;
 pub mod auction;
 pub mod codes;
+pub mod current;
 pub mod day;
 pub mod encode;
 pub mod event;
