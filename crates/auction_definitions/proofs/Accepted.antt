@@ -16,6 +16,7 @@ use Rattle.definitions.proofs.Tests.{and-parts, never, or-parts, or-second}
 use Rattle.auction_definitions.specs.declared.AuctionOrder.{AuctionOrder}
 use Rattle.auction_definitions.specs.declared.Line.{Line}
 use Rattle.auction_definitions.specs.Auction.{badOrder, emptyLine, isAuction, isLimit, listsFit, maxOrders, placeLine, refusal, sumOf, sumsIn}
+use Rattle.auction_definitions.specs.Current.{zeroOrder}
 
 pub good-limit : (o : AuctionOrder) → isLimit o ≡ true → badOrder o ≡ false → legal (o .price) ≡ true
 unfolding badOrder
@@ -73,16 +74,12 @@ module _ (orders : List AuctionOrder) (buyers sellers : List ℕ) where
       go true b e = refl
       go false b e = absurd (omega (arith, e))
 
--- read past the list's end
-abbrev pub noOrder : AuctionOrder
-noOrder = record { side = 0; price = 0; volume = 0 }
-
 pub sums-held : (sum : Line → ℕ) (orders : List AuctionOrder) (scratch : List ℕ) (i : ℕ) → i < length orders → sum (emptyLine 0) ≡ 0
-    → getD (sumsIn sum orders scratch) i 0 ≡ sum (placeLine orders (getD orders i noOrder))
+    → getD (sumsIn sum orders scratch) i 0 ≡ sum (placeLine orders (getD orders i zeroOrder))
 unfolding sumsIn placeLine
 sums-held sum orders scratch i small none =
     List·getD-append (map (λ o. sum (placeLine orders o)) orders) (drop (length orders) scratch) 0 i (subst (λ (n : ℕ). i < n) (sym (length-map orders (λ o. sum (placeLine orders o)))) small)
-    ∙ subst (λ (d : ℕ). getD (map (λ o. sum (placeLine orders o)) orders) i d ≡ sum (placeLine orders (getD orders i noOrder))) none (List·getD-map (λ o. sum (placeLine orders o)) orders i noOrder)
+    ∙ subst (λ (d : ℕ). getD (map (λ o. sum (placeLine orders o)) orders) i d ≡ sum (placeLine orders (getD orders i zeroOrder))) none (List·getD-map (λ o. sum (placeLine orders o)) orders i zeroOrder)
 
 pub sums-behind : (sum : Line → ℕ) (orders : List AuctionOrder) (scratch : List ℕ) → drop (length orders) (sumsIn sum orders scratch) ≡ drop (length orders) scratch
 unfolding sumsIn

@@ -8,6 +8,10 @@ pub mod Accepted
 pub mod AnyOrder
 pub mod Promises
 pub mod VolumePromises
+pub mod CurrentCalls
+pub mod CurrentPromises
+pub mod CurrentHistories
 pub mod Books
 pub mod Cases
 pub mod VolumeCases
+pub mod CurrentCases

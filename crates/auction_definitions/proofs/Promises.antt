@@ -16,12 +16,13 @@ use Rattle.auction_definitions.specs.declared.Line.{Line}
 use Rattle.auction_definitions.specs.declared.AuctionAnswer.{AuctionAnswer}
 use Rattle.auction_definitions.specs.declared.AuctionAnswer.the-variants.{Price, None, Refused}
 use Rattle.auction_definitions.specs.Auction.{auction, badOrder, beats, buyersAfter, conditions, given, isAuction, placeLine, refusal, sellersAfter, sumOf, sumsIn, traded}
+use Rattle.auction_definitions.specs.Current.{zeroOrder}
 use Rattle.auction_definitions.proofs.StrictOrder as order
 use Rattle.auction_definitions.proofs.Among.{none-of}
 use Rattle.auction_definitions.proofs.Limits.{LimitAt, limit-of}
 use Rattle.auction_definitions.proofs.Permuted.{Permuted}
 use Rattle.auction_definitions.proofs.Projected.{NoVolume, Projected, given-none, given-price, none-given, only-one, price-given, variantOf}
-use Rattle.auction_definitions.proofs.Accepted.{good-limit, lists-fit, noOrder, none-bad, sum-bound, sums-behind, sums-held}
+use Rattle.auction_definitions.proofs.Accepted.{good-limit, lists-fit, none-bad, sum-bound, sums-behind, sums-held}
 use Rattle.auction_definitions.proofs.AnyOrder.{given-permuted, refusal-permuted}
 
 -- "Beats" is a strict order, and total on different prices
@@ -118,10 +119,10 @@ module _ (orders : List AuctionOrder) (reference : ℕ) (buyers sellers : List �
   sums-fit fits t = omega (arith, sum-bound t orders (none-bad orders buyers sellers fits), lists-fit orders buyers sellers fits .0)
 
   -- what the scratch lists hold: at each order's place the sums of its line
-  pub buyers-held : refusal orders buyers sellers ≡ 0 → (i : ℕ) → i < length orders → getD (buyersAfter orders buyers sellers) i 0 ≡ placeLine orders (getD orders i noOrder) .buyers
+  pub buyers-held : refusal orders buyers sellers ≡ 0 → (i : ℕ) → i < length orders → getD (buyersAfter orders buyers sellers) i 0 ≡ placeLine orders (getD orders i zeroOrder) .buyers
   buyers-held fits i small = rw fits (sums-held (λ l. l .buyers) orders buyers i small refl)
 
-  pub sellers-held : refusal orders buyers sellers ≡ 0 → (i : ℕ) → i < length orders → getD (sellersAfter orders buyers sellers) i 0 ≡ placeLine orders (getD orders i noOrder) .sellers
+  pub sellers-held : refusal orders buyers sellers ≡ 0 → (i : ℕ) → i < length orders → getD (sellersAfter orders buyers sellers) i 0 ≡ placeLine orders (getD orders i zeroOrder) .sellers
   sellers-held fits i small = rw fits (sums-held (λ l. l .sellers) orders sellers i small refl)
 
   behind : (sum : Line → ℕ) (scratch : List ℕ) (t : Bool) → drop (length orders) (cond t (sumsIn sum orders scratch) scratch) ≡ drop (length orders) scratch

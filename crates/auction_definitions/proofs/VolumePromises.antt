@@ -13,10 +13,11 @@ use Rattle.auction_definitions.specs.declared.AuctionOrder.{AuctionOrder
 use Rattle.auction_definitions.specs.declared.AuctionAnswer.the-variants.{Price, None, Refused}
 use Rattle.auction_definitions.specs.Auction.{auction, beats, buyersAfter, candidates, emptyLine, isLimit, lineAt, maxOrders, placeLine, refusal, sellersAfter, volumeOf}
 use Rattle.auction_definitions.specs.Volumes.{auctionInOne, placeVolume, volumesAfter, volumesIn}
+use Rattle.auction_definitions.specs.Current.{zeroOrder}
 use Rattle.auction_definitions.proofs.Among.{Among, read}
 use Rattle.auction_definitions.proofs.Limits.{candidate-of}
 use Rattle.auction_definitions.proofs.Projected.{NoVolume, Projected, variantOf}
-use Rattle.auction_definitions.proofs.Accepted.{lists-fit, noOrder}
+use Rattle.auction_definitions.proofs.Accepted.{lists-fit}
 use Rattle.auction_definitions.proofs.Promises.{accepted, buyers-held, none-without-volume, price-unbeaten, refusal-of, sellers-held}
 
 -- one list is as good as two, where it is long enough exactly if both are
@@ -60,7 +61,7 @@ place-volume orders o = go (isLimit o)
 module _ (orders : List AuctionOrder) (volumes : List ℕ) where
   -- the order at a place, and what the list holds there after the call
   abbrev at : ℕ → AuctionOrder
-  at i = getD orders i noOrder
+  at i = getD orders i zeroOrder
 
   abbrev held : ℕ → ℕ
   held i = getD (volumesAfter orders volumes) i 0
@@ -83,7 +84,7 @@ module _ (orders : List AuctionOrder) (volumes : List ℕ) where
   held-at : Accepted → (i : ℕ) → held i ≡ placeVolume orders (at i)
   unfolding volumesIn placeVolume
   held-at fits i =
-      rw fits (zeros-behind (map (placeVolume orders) orders) (length volumes - length orders) i ∙ List·getD-map (placeVolume orders) orders i noOrder)
+      rw fits (zeros-behind (map (placeVolume orders) orders) (length volumes - length orders) i ∙ List·getD-map (placeVolume orders) orders i zeroOrder)
 
   -- "After a call not refused it holds, at each limit's place in the order list, the volume at that price,
   pub volume-held : Accepted → (i : ℕ) → isLimit (at i) ≡ true → held i ≡ volumeOf (lineAt orders (at i .price))
@@ -96,7 +97,7 @@ module _ (orders : List AuctionOrder) (volumes : List ℕ) where
   zero-elsewhere fits i none = held-at fits i ∙ rw none
 
   pub zero-behind : Accepted → (i : ℕ) → length orders ≤ i → held i ≡ 0
-  zero-behind fits i past = zero-elsewhere fits i (ap isLimit (List·getD-eq-default orders noOrder past))
+  zero-behind fits i past = zero-elsewhere fits i (ap isLimit (List·getD-eq-default orders zeroOrder past))
 
   -- two orders of one price hold one volume each
   pub one-price : Accepted → (i j : ℕ) → at i .price ≡ at j .price → held i ≡ held j
@@ -132,7 +133,7 @@ module _ (orders : List AuctionOrder) (volumes : List ℕ) where
       where
         go : (t : Bool) → isLimit (at i) ≡ t → (u : Bool) → ltb i (length orders) ≡ u → held i ≤ v
         go true limit true small =
-            let among : Among (at i) orders = read orders i noOrder (ltb-true i (length orders) small) in
+            let among : Among (at i) orders = read orders i zeroOrder (ltb-true i (length orders) small) in
             omega (arith, volume-held fits i limit, bound (at i .price) (candidate-of orders (record { order = at i; among = among; limit = limit; price = refl })))
         go true limit false past = omega (arith, zero-behind fits i (ltb-false i (length orders) past))
         go false none u _ = omega (arith, zero-elsewhere fits i none)
