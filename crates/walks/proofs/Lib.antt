@@ -1,0 +1,5 @@
+pub mod Bodies
+pub mod Plain
+pub mod Again
+pub mod Prefix
+pub mod GivenUp
