@@ -23,3 +23,7 @@ betterOf reference l best = cond (beats reference l best) l best
 -- the answer after the loops: whether they met a bad order, and the best line that they found
 unfoldable pub answerOf : Bool → Line → AuctionAnswer
 answerOf bad best = cond bad (Refused 15) (cond (hasVolume best) (Price (best .price) (volumeOf best)) None)
+
+-- paper 02, 7: the answer to a place at or beyond the count, 16 where no order is bad
+abbrev pub placeRefused : Bool → AuctionAnswer
+placeRefused bad = Refused (cond bad 15 16)

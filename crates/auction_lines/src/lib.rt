@@ -1,11 +1,12 @@
-// Paper 02, 5 and 6: one order, one line, and two lines held against each other. Nothing here is handed a list, only how long lists are and which place has its turn.
+// Paper 02, 5 to 7: one order, one line, and two lines held against each other. Nothing here is handed a list, only how long lists are, how many orders are held and which place has its turn.
 ghost use mathlib.Core.Path.{_≡_};
 ghost use mathlib.Core.Bool.{cond, not, _&&_, _||_};
 ghost use Prim.Native.Nat.{_+_, _<_, _^_, min};
 ghost use lib.Dec.{eqb};
 ghost use Rattle.ladder.specs.Ladder.{legal};
 ghost use Rattle.auction_definitions.specs.Auction.{apart, auctionNumbers, badOrder, beats, emptyLine, listsFit, volumeOf};
-ghost use Rattle.auction_lines.specs.Lines.{answerOf, betterOf, withOrder};
+ghost use Rattle.auction_definitions.specs.Current.{addFits, isRefused, takeFits, zeroOrder};
+ghost use Rattle.auction_lines.specs.Lines.{answerOf, betterOf, placeRefused, withOrder};
 use auction_definitions::AuctionAnswer;
 use auction_definitions::AuctionNumbers;
 use auction_definitions::AuctionOrder;
@@ -22,6 +23,20 @@ pub fn lists_fit(orders: usize, buyers: usize, sellers: usize) -> bool
     (orders <= MAX_ORDERS) & (MAX_ORDERS <= buyers) & (MAX_ORDERS <= sellers)
 }
 
+// Paper 02, 7: an order more fits the list and its scratch list.
+pub fn add_fits(count: usize, places: usize, volumes: usize) -> bool
+    ensures { λ r. ⌜ r ≡ addFits count places volumes ⌝ }
+{
+    (count < places) & (count < MAX_ORDERS) & (MAX_ORDERS <= volumes)
+}
+
+// Paper 02, 7: what is held fits the list and its scratch list.
+pub fn take_fits(count: usize, places: usize, volumes: usize) -> bool
+    ensures { λ r. ⌜ r ≡ takeFits count places volumes ⌝ }
+{
+    (count <= places) & (count <= MAX_ORDERS) & (MAX_ORDERS <= volumes)
+}
+
 fn price_or_none(price: u32) -> bool
     ensures { λ r. ⌜ r ≡ (eqb price 0 || legal price) ⌝ }
 {
@@ -31,7 +46,7 @@ fn price_or_none(price: u32) -> bool
     Ladder::legal(price)
 }
 
-fn bad_order(order: AuctionOrder) -> bool
+pub fn bad_order(order: AuctionOrder) -> bool
     ensures { λ r. ⌜ r ≡ badOrder order ⌝ }
 {
     let in_range = (1 <= order.volume) & (order.volume <= MAX_VOLUME);
@@ -152,6 +167,37 @@ pub fn answer_of(bad: bool, best: Line) -> AuctionAnswer
     AuctionAnswer::Price {
         price: best.price,
         volume,
+    }
+}
+
+// Paper 02, 7: a place at or beyond the count is refused last.
+pub fn place_refused(bad: bool) -> AuctionAnswer
+    ensures { λ r. ⌜ r ≡ placeRefused bad ⌝ }
+{
+    let number = if bad { 15 } else { 16 };
+    AuctionAnswer::Refused(number)
+}
+
+pub fn is_refused(answer: AuctionAnswer) -> bool
+    ensures { λ r. ⌜ r ≡ isRefused answer ⌝ }
+{
+    match answer {
+        AuctionAnswer::Price {
+            price: _,
+            volume: _,
+        } => false,
+        AuctionAnswer::None => false,
+        AuctionAnswer::Refused(_) => true,
+    }
+}
+
+pub fn zero_order() -> AuctionOrder
+    ensures { λ r. ⌜ r ≡ zeroOrder ⌝ }
+{
+    AuctionOrder {
+        side: 0,
+        price: 0,
+        volume: 0,
     }
 }
 
