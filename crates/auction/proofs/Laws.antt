@@ -3,7 +3,7 @@
 use mathlib.Core.Bool.{Bool, true, false, cond, not, _&&_, _||_}
 use mathlib.Core.List.{List, [], _∷_, _++_, map, map-append}
 use mathlib.Core.Path.{_≡_, refl, sym, _∙_, ap}
-use Prim.Native.Nat.{ℕ, zero, suc, _+_, _-_, _*_, _≤_, _<_, _^_}
+use Prim.Native.Nat.{ℕ, zero, suc, _+_, _*_, _≤_, _<_, _^_}
 use native.Mathlib.Omega.{arith}
 use lib.Dec.{eqb}
 use lib.ListN.{length, getD, set, take, drop, drop-of-length-le, length-map, length-set, length-take}
@@ -15,7 +15,7 @@ use Rattle.definitions.proofs.Tests.{and-second}
 use Rattle.auction_definitions.specs.declared.AuctionOrder.{AuctionOrder}
 use Rattle.auction_definitions.specs.declared.Line.{Line}
 use Rattle.auction_definitions.specs.Auction.{badOrder, buysAt, emptyLine, lineAt, placeLine, sellsAt, sumOf, sumsIn}
-use Rattle.auction_definitions.proofs.Accepted.{noOrder}
+use Rattle.auction_definitions.specs.Current.{zeroOrder}
 use Rattle.auction_lines.specs.Lines.{betterOf, withOrder}
 use Rattle.auction.specs.Turns.{bestAfter, filledTo, lineAfter}
 
@@ -36,7 +36,7 @@ pub record Filled (sum : Line → ℕ) (orders : List AuctionOrder) (start : Lis
 pub record Orders (orders : List AuctionOrder) (i j : ℕ) (line : Line) : Type 0 where
   pub within : j ≤ length orders
   pub bad-left : i ≡ 0 → any badOrder (drop j orders) ≡ any badOrder orders
-  pub line-left : lineAfter line (drop j orders) ≡ placeLine orders (getD orders i noOrder)
+  pub line-left : lineAfter line (drop j orders) ≡ placeLine orders (getD orders i zeroOrder)
   pub buyers-small : line .buyers ≤ j * 2 ^ 32
   pub sellers-small : line .sellers ≤ j * 2 ^ 32
 
@@ -82,35 +82,35 @@ place-line orders o = line-after orders (emptyLine (o .price)) ∙ go (eqb (o .p
     go false limit = same-sums (o .price) (omega arith) (omega arith)
 
 module _ (orders : List AuctionOrder) where
-  pub orders-start : (i : ℕ) → i < length orders → Orders orders i 0 (emptyLine (getD orders i noOrder .price))
+  pub orders-start : (i : ℕ) → i < length orders → Orders orders i 0 (emptyLine (getD orders i zeroOrder .price))
   orders-start i small =
-      record { within = omega arith; bad-left = λ _. refl; line-left = place-line orders (getD orders i noOrder); buyers-small = omega arith; sellers-small = omega arith }
+      record { within = omega arith; bad-left = λ _. refl; line-left = place-line orders (getD orders i zeroOrder); buyers-small = omega arith; sellers-small = omega arith }
 
   -- the sums fit, so that an order may be added
   pub small : {i j : ℕ} {line : Line} → length orders ≤ 1_024 → Orders orders i j line → (line .buyers < 2 ^ 63) × (line .sellers < 2 ^ 63)
   small fits at =
       (omega (arith, fits, at .within, at .buyers-small), omega (arith, fits, at .within, at .sellers-small))
 
-  pub orders-next : {i j : ℕ} {line : Line} → Orders orders i j line → j < length orders → getD orders j noOrder .volume < 2 ^ 32
-      → (eqb i 0 && badOrder (getD orders j noOrder)) ≡ false → Orders orders i (j + 1) (withOrder line (getD orders j noOrder))
+  pub orders-next : {i j : ℕ} {line : Line} → Orders orders i j line → j < length orders → getD orders j zeroOrder .volume < 2 ^ 32
+      → (eqb i 0 && badOrder (getD orders j zeroOrder)) ≡ false → Orders orders i (j + 1) (withOrder line (getD orders j zeroOrder))
   unfolding withOrder lineAfter
   orders-next {i} {j} {line} at small volume good =
       record {
         within = omega (arith, small);
-        bad-left = λ first. sym (any-next badOrder orders j noOrder small ∙ ap (λ (b : Bool). b || any badOrder (drop (j + 1) orders)) (and-second (eqb i 0) (badOrder (getD orders j noOrder)) good (eq-eqb i 0 first))) ∙ at .bad-left first;
-        line-left = sym (ap (lineAfter line) (drop-next orders j noOrder small)) ∙ at .line-left;
-        buyers-small = omega (arith, at .buyers-small, volume, added-small (not (eqb (line .price) 0) && buysAt (line .price) (getD orders j noOrder)) (getD orders j noOrder .volume));
-        sellers-small = omega (arith, at .sellers-small, volume, added-small (not (eqb (line .price) 0) && sellsAt (line .price) (getD orders j noOrder)) (getD orders j noOrder .volume));
+        bad-left = λ first. sym (any-next badOrder orders j zeroOrder small ∙ ap (λ (b : Bool). b || any badOrder (drop (j + 1) orders)) (and-second (eqb i 0) (badOrder (getD orders j zeroOrder)) good (eq-eqb i 0 first))) ∙ at .bad-left first;
+        line-left = sym (ap (lineAfter line) (drop-next orders j zeroOrder small)) ∙ at .line-left;
+        buyers-small = omega (arith, at .buyers-small, volume, added-small (not (eqb (line .price) 0) && buysAt (line .price) (getD orders j zeroOrder)) (getD orders j zeroOrder .volume));
+        sellers-small = omega (arith, at .sellers-small, volume, added-small (not (eqb (line .price) 0) && sellsAt (line .price) (getD orders j zeroOrder)) (getD orders j zeroOrder .volume));
       }
 
   -- every order was added: the line is the place's
-  pub line-whole : {i : ℕ} {line : Line} → Orders orders i (length orders) line → line ≡ placeLine orders (getD orders i noOrder)
+  pub line-whole : {i : ℕ} {line : Line} → Orders orders i (length orders) line → line ≡ placeLine orders (getD orders i zeroOrder)
   unfolding lineAfter
   line-whole {line = line} done = sym (ap (lineAfter line) (drop-of-length-le orders {i = length orders} (omega arith))) ∙ done .line-left
 
   -- the number of the next place goes behind those that are there
   pub set-next : (sum : Line → ℕ) (start : List ℕ) (i : ℕ) {line : Line} → i < length orders → i < length start
-      → line ≡ placeLine orders (getD orders i noOrder) → set (filledTo sum orders i start) i (sum line) ≡ filledTo sum orders (i + 1) start
+      → line ≡ placeLine orders (getD orders i zeroOrder) → set (filledTo sum orders i start) i (sum line) ≡ filledTo sum orders (i + 1) start
   unfolding filledTo
   set-next sum start i {line} small room e =
       let at : AuctionOrder → ℕ = λ o. sum (placeLine orders o) in
@@ -118,7 +118,7 @@ module _ (orders : List AuctionOrder) where
       ∙ set-at (map at (take i orders)) (getD start i 0) (drop (i + 1) start) (sum line) i (length-map (take i orders) at ∙ length-take i orders ∙ omega (arith, small))
       ∙ sym (append-snoc (map at (take i orders)) (sum line) (drop (i + 1) start))
       ∙ ap (λ l. (map at (take i orders) ++ (sum l ∷ [])) ++ drop (i + 1) start) e
-      ∙ ap (λ l. l ++ drop (i + 1) start) (sym (ap (map at) (take-next orders i noOrder small) ∙ map-append at (take i orders) (getD orders i noOrder ∷ [])))
+      ∙ ap (λ l. l ++ drop (i + 1) start) (sym (ap (map at) (take-next orders i zeroOrder small) ∙ map-append at (take i orders) (getD orders i zeroOrder ∷ [])))
 
   module _ (sum : Line → ℕ) (start : List ℕ) where
     pub none-yet : start ≡ filledTo sum orders 0 start
@@ -165,5 +165,5 @@ module _ (orders : List AuctionOrder) (reference : ℕ) where
         none-bad = λ _. none-bad-next i (at .none-bad) done;
         best-left =
             ap (λ l. bestAfter reference orders (betterOf reference l best) (drop (i + 1) orders)) (line-whole orders done)
-            ∙ sym (ap (bestAfter reference orders best) (drop-next orders i noOrder small)) ∙ at .best-left;
+            ∙ sym (ap (bestAfter reference orders best) (drop-next orders i zeroOrder small)) ∙ at .best-left;
       }

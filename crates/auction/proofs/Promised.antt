@@ -18,7 +18,7 @@ use Rattle.auction_definitions.specs.declared.AuctionAnswer.{AuctionAnswer}
 use Rattle.auction_definitions.specs.declared.AuctionAnswer.the-variants.{Refused}
 use Rattle.auction_definitions.specs.Auction.{auction, badOrder, buyersAfter, emptyLine, listsFit, placeLine, refusal, sellersAfter, sumsIn, volumeOf}
 use Rattle.auction_definitions.specs.Volumes.{auctionInOne, placeVolume, volumesAfter, volumesIn}
-use Rattle.auction_definitions.proofs.Accepted.{noOrder}
+use Rattle.auction_definitions.specs.Current.{zeroOrder}
 use Rattle.auction_definitions.proofs.VolumePromises.{place-volume, zeros}
 use Rattle.auction_lines.specs.Lines.{answerOf}
 use Rattle.auction.specs.Turns.{bestAfter, clearedFrom}
@@ -62,11 +62,11 @@ module _ (orders : List AuctionOrder) (reference : ℕ) (buyers sellers : List �
 
   -- a bad order was met, which only the first turn asks about
   answered-bad : {i j : ℕ} {line : Line} → fit ≡ true → Orders orders i j line → j < length orders
-      → (eqb i 0 && badOrder (getD orders j noOrder)) ≡ true → (i ≡ 0) × (refusal orders buyers sellers ≡ 15)
+      → (eqb i 0 && badOrder (getD orders j zeroOrder)) ≡ true → (i ≡ 0) × (refusal orders buyers sellers ≡ 15)
   answered-bad {i} {j} fits on small bad =
-      let parts : (eqb i 0 ≡ true) × (badOrder (getD orders j noOrder) ≡ true) = and-parts (eqb i 0) (badOrder (getD orders j noOrder)) bad in
+      let parts : (eqb i 0 ≡ true) × (badOrder (getD orders j zeroOrder) ≡ true) = and-parts (eqb i 0) (badOrder (getD orders j zeroOrder)) bad in
       let first : i ≡ 0 = eqb-true i 0 (parts .0) in
-      let some : any badOrder orders ≡ true = sym (on .bad-left first) ∙ any-next badOrder orders j noOrder small ∙ or-first (any badOrder (drop (j + 1) orders)) (parts .1) in
+      let some : any badOrder orders ≡ true = sym (on .bad-left first) ∙ any-next badOrder orders j zeroOrder small ∙ or-first (any badOrder (drop (j + 1) orders)) (parts .1) in
       (first, refusal-15 fits some)
 
   -- what `price` promises, of an answer and the two lists left
@@ -87,7 +87,7 @@ module _ (orders : List AuctionOrder) (reference : ℕ) (buyers sellers : List �
       (given .1, filled-whole orders (λ l. l .buyers) buyers bs last ∙ rw (given .0), filled-whole orders (λ l. l .sellers) sellers ss last ∙ rw (given .0))
 
   pub promised-bad : {i j : ℕ} {line : Line} (best : Line) → fit ≡ true → Orders orders i j line → j < length orders
-      → (eqb i 0 && badOrder (getD orders j noOrder)) ≡ true
+      → (eqb i 0 && badOrder (getD orders j zeroOrder)) ≡ true
       → (bs : Filled (λ l. l .buyers) orders buyers i) (ss : Filled (λ l. l .sellers) orders sellers i)
       → Promised (answerOf true best) (bs .list) (ss .list)
   unfolding answerOf
@@ -113,7 +113,7 @@ module _ (orders : List AuctionOrder) (reference : ℕ) (volumes : List ℕ) whe
   promised-unfit-in-one unfit = refused-in-one (refusal-14 orders reference volumes volumes unfit) refl
 
   pub promised-bad-in-one : {i j : ℕ} {line : Line} → fit orders reference volumes volumes ≡ true → Orders orders i j line → j < length orders
-      → (eqb i 0 && badOrder (getD orders j noOrder)) ≡ true → (vs : Filled volumeOf orders volumes i) → PromisedInOne (Refused 15) (vs .list)
+      → (eqb i 0 && badOrder (getD orders j zeroOrder)) ≡ true → (vs : Filled volumeOf orders volumes i) → PromisedInOne (Refused 15) (vs .list)
   promised-bad-in-one fits on small bad vs =
       let met = answered-bad orders reference volumes volumes fits on small bad in
       let kept = refused-in-one (met .1) refl in

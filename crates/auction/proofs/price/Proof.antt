@@ -59,8 +59,9 @@ use Rattle.auction_definitions.specs.declared.AuctionAnswer.the-variants.{Refus
 use Rattle.auction_definitions.specs.declared.AuctionOrder.{AuctionOrder}
 use Rattle.auction_definitions.specs.declared.Line.{Line}
 use Rattle.auction_definitions.specs.Auction.{badOrder, emptyLine, listsFit}
+use Rattle.auction_definitions.specs.Current.{zeroOrder}
 use Rattle.auction_lines.specs.Lines.{answerOf, betterOf, withOrder}
-use Rattle.auction_definitions.proofs.Accepted.{noOrder, sizes}
+use Rattle.auction_definitions.proofs.Accepted.{sizes}
 use Rattle.auction_definitions.proofs.AuctionAnswer as N
 use Rattle.auction_definitions.proofs.AuctionAnswer.Laws as N′
 use Rattle.auction_definitions.proofs.AuctionOrder as O
@@ -85,7 +86,9 @@ use Rattle.auction_lines.proofs.answer_of.Symbol as answer-of-def
 use Rattle.auction_lines.proofs.answer_of.Symbol.{name as #answer-of}
 use Rattle.auction_lines.proofs.answer_of.Met as answer-of-thm
 use Rattle.auction.proofs.Calls.{ListsFit, EmptyLine, BadAtFirst, WithOrder, Better, AnswerOf, calls-lists-fit, calls-empty-line, calls-bad-at-first, calls-with-order, calls-better, calls-answer-of}
-use Rattle.auction.proofs.States.{Places, Passed, past, holds, fails, holds-twice, order-typed, line-typed, answer-typed}
+use Rattle.walks.proofs.Bodies.{past}
+use Rattle.auction_lines.proofs.Typed.{order-typed}
+use Rattle.auction.proofs.States.{Places, Passed, holds, fails, holds-twice, line-typed, answer-typed}
 use Rattle.auction.proofs.Laws.{Filled, Orders, candidates-start, candidates-next, filled-start, filled-next, orders-start, orders-next, small}
 use Rattle.auction.proofs.Promised.{Promised, promised, promised-bad, promised-unfit}
 use Rattle.auction.proofs.price.Key.{name as #auction·price}
@@ -256,7 +259,7 @@ module _ {M : Type 1} (𝓤 : URA M) (H : Heap 𝓤) (A : Atoms 𝓤) (W : Given
           -- the inner loop
           module _ (best : Line) (i : ℕ) (bs ss : List ℕ) (i-small : i < n) (Q : Kit.Post 𝓤 H)
               (to-end : (t : Passed os i) → t .j ≡ n → Sq W (In best i bs ss false t) (prop (post 𝓤 H Q next)))
-              (to-label : (t : Passed os i) → t .j < n → (eqb i 0 && badOrder (getD os (t .j) noOrder)) ≡ true → Sq W (In best i bs ss true t) (prop (post 𝓤 H Q (exitsᴼ 1)))) where
+              (to-label : (t : Passed os i) → t .j < n → (eqb i 0 && badOrder (getD os (t .j) zeroOrder)) ≡ true → Sq W (In best i bs ss true t) (prop (post 𝓤 H Q (exitsᴼ 1)))) where
             abbrev orders-left : Passed os i → ℕ
             orders-left t = n - t .j
 
@@ -270,7 +273,7 @@ module _ {M : Type 1} (𝓤 : URA M) (H : Heap 𝓤) (A : Atoms 𝓤) (W : Given
             unfolding afterTurn
             order-turn t =
                 let j = t .j in
-                let o = getD os j noOrder in
+                let o = getD os j zeroOrder in
                 assigns ! (bin ! (load ! (from ! (stop !)) (look ! 13 refl)) (load ! (from ! (stop !)) (look ! 8 refl)) tt) (from ! (stop !)) (init ! 23 refl (tt, tt)) $
                 first ! $ branches ! (load ! (from ! (stop !)) (look ! 23 refl))
                 -- j is below the count: order j is read, and asked about
@@ -280,10 +283,10 @@ module _ {M : Type 1} (𝓤 : URA M) (H : Heap 𝓤) (A : Atoms 𝓤) (W : Given
                 assigns ! (bin ! (load ! (from ! (stop !)) (look ! 13 refl)) (lit ! tt) (record { fits = far })) (from ! (stop !)) (init ! 24 refl (tt, record { fits = far })) $
                 assigns ! (bin ! (load ! (from ! (fld ! refl (stop !))) (look-in ! 4 (sub ! 0 refl (whole !)))) (load ! (from ! (stop !)) (look ! 24 refl)) tt) (from ! (stop !)) (init ! 25 refl (tt, tt)) $
                 rewrite ! 25 (λ (p : ℕ). ‵ (fat fullShare tyPtr l₂₂ 0 (vptr b₀ p))) (sym (place-is 12 o₀ j)) refl $
-                elem-out ! O.the-row (Is O.the-row) (shows 𝓤 H A O.the-row) (λ x. O′.lowered x ∷ []) (O′.lowers .val-is) q os j noOrder b₀ o₀ j-small (λ o-is.
+                elem-out ! O.the-row (Is O.the-row) (shows 𝓤 H A O.the-row) (λ x. O′.lowered x ∷ []) (O′.lowers .val-is) q os j zeroOrder b₀ o₀ j-small (λ o-is.
                 -- [orders[j]; what it owns; the others; the buyers' list; the sellers'; the locals]
                 assigns ! (of-opd ! (load ! (from ! (hop ! (look ! 27 refl) (stop !))) (look-raw ! 0 refl))) (from ! (stop !)) (init ! 28 refl (order-typed o o-is)) $
-                elem-back ! O.the-row q os j noOrder (O′.lowered o ∷ []) b₀ o₀ j-small $
+                elem-back ! O.the-row q os j zeroOrder (O′.lowered o ∷ []) b₀ o₀ j-small $
                 assigns ! (of-opd ! (load ! (from ! (stop !)) (look ! 26 refl))) (from ! (stop !)) (init ! 14 refl (order-typed o o-is)) $
                 calls-bad-at-first 𝓤 H A W mem run i o ! fm known-bad-at-first (omega (arith, i-small, fits)) o-is (and-then ! (load ! (from ! (stop !)) (look ! 11 refl)) (and-then ! (load ! (from ! (stop !)) (look ! 14 refl)) (no-more !))) (λ _.
                 land ! (from ! (stop !)) (init ! 27 refl (tt, tt)) $
@@ -368,7 +371,7 @@ module _ {M : Type 1} (𝓤 : URA M) (H : Heap 𝓤) (A : Atoms 𝓤) (W : Given
             unfolding afterTurn
             place-turn t =
                 let i = t .i in
-                let o = getD os i noOrder in
+                let o = getD os i zeroOrder in
                 assigns ! (bin ! (load ! (from ! (stop !)) (look ! 11 refl)) (load ! (from ! (stop !)) (look ! 8 refl)) tt) (from ! (stop !)) (init ! 19 refl (tt, tt)) $
                 first ! $ branches ! (load ! (from ! (stop !)) (look ! 19 refl))
                 -- i is below the count: a line begins at the price of order i, and the orders are added to it
@@ -378,11 +381,11 @@ module _ {M : Type 1} (𝓤 : URA M) (H : Heap 𝓤) (A : Atoms 𝓤) (W : Given
                 assigns ! (bin ! (load ! (from ! (stop !)) (look ! 11 refl)) (lit ! tt) (record { fits = far })) (from ! (stop !)) (init ! 20 refl (tt, record { fits = far })) $
                 assigns ! (bin ! (load ! (from ! (fld ! refl (stop !))) (look-in ! 4 (sub ! 0 refl (whole !)))) (load ! (from ! (stop !)) (look ! 20 refl)) tt) (from ! (stop !)) (init ! 21 refl (tt, tt)) $
                 rewrite ! 21 (λ (p : ℕ). ‵ (fat fullShare tyPtr l₁₈ 0 (vptr b₀ p))) (sym (place-is 12 o₀ i)) refl $
-                elem-out ! O.the-row (Is O.the-row) (shows 𝓤 H A O.the-row) (λ x. O′.lowered x ∷ []) (O′.lowers .val-is) q os i noOrder b₀ o₀ i-small (λ o-is.
+                elem-out ! O.the-row (Is O.the-row) (shows 𝓤 H A O.the-row) (λ x. O′.lowered x ∷ []) (O′.lowers .val-is) q os i zeroOrder b₀ o₀ i-small (λ o-is.
                 let p-is : o .price < 2 ^ 32 = order-typed o o-is .1 .1 .0 .fits in
                 -- [orders[i]; what it owns; the others; the buyers' list; the sellers'; the locals]
                 assigns ! (of-opd ! (load ! (from ! (hop ! (look ! 23 refl) (fld ! refl (stop !)))) (look-in ! 0 (sub ! 1 refl (whole !))))) (from ! (stop !)) (init ! 24 refl (tt, record { fits = p-is })) $
-                elem-back ! O.the-row q os i noOrder (O′.lowered o ∷ []) b₀ o₀ i-small $
+                elem-back ! O.the-row q os i zeroOrder (O′.lowered o ∷ []) b₀ o₀ i-small $
                 calls-empty-line 𝓤 H A W mem run (o .price) ! fm known-empty-line p-is (and-then ! (load ! (from ! (stop !)) (look ! 22 refl)) (no-more !)) (λ line-is.
                 land ! (from ! (stop !)) (init ! 12 refl (line-typed _ line-is)) $
                 assigns ! (of-opd ! (lit ! tt)) (from ! (stop !)) (init ! 13 refl (tt, record { fits = lit< tt })) $

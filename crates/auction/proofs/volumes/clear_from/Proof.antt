@@ -3,12 +3,13 @@
 use Prim.Native.Nat.{_-_}
 use lib.ListN.{length}
 use borrow.Author.Needs.{needs}
-use Rattle.auction.proofs.Cleared.{Cleared, cleared-start, cleared-next, cleared-end}
+use Rattle.auction_lines.proofs.Cleared.{Cleared, cleared-start, cleared-next, cleared-end}
+use Rattle.auction.specs.Turns.{clearedFrom}
 use Rattle.auction.proofs.volumes.clear_from.Statement.{statement}
 use Rattle.auction.proofs.volumes.clear_from.Tie as tie
 
 abbrev Inv-loop : tie.InvT-loop
-Inv-loop volumes₀ place i₀ volumes i = Cleared place volumes₀ volumes i
+Inv-loop volumes₀ place i₀ volumes i = Cleared 0 place volumes₀ volumes i
 
 abbrev μ-loop : tie.MeasureT-loop
 μ-loop volumes₀ place i₀ volumes i = length volumes₀ - i
@@ -32,6 +33,7 @@ same-length : tie.Need-same-length Inv-loop μ-loop
 same-length c = c .before .loop .inv .long
 
 returns : tie.Need-returns Inv-loop μ-loop
+unfolding clearedFrom
 returns c = cleared-end (c .loop-test .left) (c .before .loop .inv)
 
 pub clear-from-spec : {M : Type 1} → statement M
