@@ -5,4 +5,4 @@ abbrev pub release : ℕ → ℕ → ℕ → ℕ
 release major minor patch = 10_000 * major + 100 * minor + patch
 
 abbrev pub version : ℕ
-version = release 4 2 0
+version = release 4 3 0

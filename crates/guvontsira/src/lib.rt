@@ -8,12 +8,13 @@ ghost use Rattle.definitions.specs.Walk.{split};
 ghost use Rattle.histories.specs.Ran.{Ran, cut};
 ghost use Rattle.auction_definitions.specs.Auction.{auction, auctionNumbers, buyersAfter, sellersAfter};
 ghost use Rattle.auction_definitions.specs.Volumes.{auctionInOne, volumesAfter};
+ghost use Rattle.auction_definitions.specs.Current.{Add, Take, callAnswer, lent, lentAfter};
 ghost use Rattle.guvontsira.specs.Version.{version};
 use auction_definitions::AuctionNumbers;
 use auction_definitions::AuctionOrder;
 use ladder::Ladder;
 
-const VERSION: u32 = 40_200;
+const VERSION: u32 = 40_300;
 
 #[no_mangle]
 pub extern "C" fn guvontsira_make(words: &mut [u32], customers: u32, securities: u32) -> u32
@@ -130,6 +131,38 @@ pub extern "C" fn guvontsira_auction_volumes(
         × (now (volumes .exit) ≡ volumesAfter (now (orders .entry)) (now (volumes .entry))) ⌝ }
 {
     auction_lines::numbers_of(auction::volumes::price_and_volumes(orders, reference, volumes))
+}
+
+// The price kept current: an order is added at the end of those held.
+#[no_mangle]
+pub extern "C" fn guvontsira_auction_add(
+    orders: &mut [AuctionOrder],
+    count: &mut usize,
+    order: AuctionOrder,
+    reference: u32,
+    volumes: &mut [u64],
+) -> AuctionNumbers
+    ensures { λ r.
+        ⌜ (r ≡ auctionNumbers (callAnswer (Add order) reference (lent (now (orders .entry)) (now (count .entry)) (now (volumes .entry)))))
+        × (lent (now (orders .exit)) (now (count .exit)) (now (volumes .exit)) ≡ lentAfter (Add order) (lent (now (orders .entry)) (now (count .entry)) (now (volumes .entry)))) ⌝ }
+{
+    auction_lines::numbers_of(auction_current::add(orders, count, order, reference, volumes))
+}
+
+// The same: the order at a place is taken out.
+#[no_mangle]
+pub extern "C" fn guvontsira_auction_take(
+    orders: &mut [AuctionOrder],
+    count: &mut usize,
+    place: usize,
+    reference: u32,
+    volumes: &mut [u64],
+) -> AuctionNumbers
+    ensures { λ r.
+        ⌜ (r ≡ auctionNumbers (callAnswer (Take place) reference (lent (now (orders .entry)) (now (count .entry)) (now (volumes .entry)))))
+        × (lent (now (orders .exit)) (now (count .exit)) (now (volumes .exit)) ≡ lentAfter (Take place) (lent (now (orders .entry)) (now (count .entry)) (now (volumes .entry)))) ⌝ }
+{
+    auction_lines::numbers_of(auction_current::take(orders, count, place, reference, volumes))
 }
 
 // A caller whose header has another number was built for another release.
