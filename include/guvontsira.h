@@ -5,20 +5,22 @@
  * caller lends to every call; the library keeps nothing itself and allocates
  * nothing. Events are handed in as bytes, and each gets one answer number. Beside
  * the state, guvontsira_auction and guvontsira_auction_volumes give the price that an
- * auction of a list of orders would give.
+ * auction of a list of orders would give, and guvontsira_auction_add and
+ * guvontsira_auction_take keep such a list, and its price, current.
  *
  * Promised: every function ends, whatever the words and bytes; it writes only
- * what it was lent for writing; a refusal changes no word (1 to 13) and no place of
- * a scratch list (14 and 15).
+ * what it was lent for writing; a refusal changes no word (1 to 13), no place of a
+ * scratch list or of a list of orders, and no count (14 to 16).
  *
  * Owed by the caller: each pointer is valid for the length that follows it
- * (a count of its type) and aligned for its type, also where that length is 0:
- * never null. The words, the answers and the scratch lists overlap nothing else
- * that is handed in, and nobody else reads or writes them, or writes the bytes,
- * the lengths and the orders, during a call. So one state must not be used by two
- * calls at once, but for the two that only read it (guvontsira_floor,
- * guvontsira_ceiling); calls on different states, and auctions with different
- * scratch lists, may run at the same time.
+ * (a count of its type), or, where none does, for one number, and aligned for its
+ * type, also where that length is 0: never null. What a call may write (the words, the answers, the scratch lists, and
+ * the list and the count of guvontsira_auction_add and guvontsira_auction_take)
+ * overlaps nothing else that is handed in, and nobody else reads or writes it, or
+ * writes the bytes, the lengths and the orders, during a call. So one state must not
+ * be used by two calls at once, but for the two that only read it
+ * (guvontsira_floor, guvontsira_ceiling); calls on different states, and auctions
+ * that are lent different lists and counts for writing, may run at the same time.
  *
  * Link with libguvontsira.a, which needs only memcpy and memset. It is compiled
  * for x86-64 Linux. The words are in the machine's byte order, which is
@@ -48,7 +50,7 @@ extern "C" {
  * no byte, answer or word differs. guvontsira_version gives the library's; a
  * program stops where the two differ.
  */
-#define GUVONTSIRA_VERSION 40200 /* 4.2.0 */
+#define GUVONTSIRA_VERSION 40300 /* 4.3.0 */
 
 #define GUVONTSIRA_MAX_CUSTOMERS 256
 #define GUVONTSIRA_MAX_SECURITIES 1024
@@ -56,7 +58,7 @@ extern "C" {
 #define GUVONTSIRA_MAX_PRICE 10000000  /* satang: 100,000.00 baht */
 #define GUVONTSIRA_MAX_POSITION 51100  /* of GUVONTSIRA_MAX_PRICE */
 #define GUVONTSIRA_MAX_VOLUME 20000000 /* shares in one order */
-#define GUVONTSIRA_MAX_AUCTION_ORDERS 1024 /* in a list; each scratch list has as many places, or more */
+#define GUVONTSIRA_MAX_AUCTION_ORDERS 1024 /* in an auction; each scratch list has as many places, or more */
 #define GUVONTSIRA_STACK_BYTES 16384
 
 /*
@@ -321,16 +323,20 @@ enum guvontsira_answer {
 #define GUVONTSIRA_LAST_REFUSAL GUVONTSIRA_REFUSED_FIGURES /* of an event */
 
 /*
- * The refusals of guvontsira_auction and of guvontsira_auction_volumes, the first
- * that is met. They follow on those of events, and no event gets one.
+ * The refusals of the four calls of an auction, the first that is met. They follow on
+ * those of events, and no event gets one.
  */
 enum guvontsira_auction_refusal {
     /* More than GUVONTSIRA_MAX_AUCTION_ORDERS orders, or a scratch list with fewer
-       places than that. */
+       places than that. Where the list is lent with its count: a count above that
+       number or above the length of the list; to add, also a count equal to either. */
     GUVONTSIRA_AUCTION_REFUSED_LENGTH = 14,
-    /* In any place an order with a side that is no code, a price that is neither 0
-       nor legal, or a volume that is not 1 to GUVONTSIRA_MAX_VOLUME. */
-    GUVONTSIRA_AUCTION_REFUSED_ORDER = 15
+    /* In any place (below the count, where one is lent), or to be added, an order with
+       a side that is no code, a price that is neither 0 nor legal, or a volume that is
+       not 1 to GUVONTSIRA_MAX_VOLUME. */
+    GUVONTSIRA_AUCTION_REFUSED_ORDER = 15,
+    /* Of guvontsira_auction_take alone: a place at or beyond the count. */
+    GUVONTSIRA_AUCTION_REFUSED_PLACE = 16
 };
 
 /* An order of an auction: 12 bytes; its fields begin at bytes 0, 4 and 8. */
@@ -342,8 +348,8 @@ struct guvontsira_auction_order {
 
 /*
  * The answer of an auction: 16 bytes; its fields begin at bytes 0, 8 and 12. A price
- * stands with its volume, both above 0. Both are 0 where there is none, and where
- * the list is refused.
+ * stands with its volume, both above 0. Both are 0 where there is none, and in a
+ * refusal.
  */
 struct guvontsira_auction_answer {
     uint64_t volume;
@@ -450,6 +456,40 @@ guvontsira_auction(const struct guvontsira_auction_order *orders, size_t order_c
 struct guvontsira_auction_answer
 guvontsira_auction_volumes(const struct guvontsira_auction_order *orders, size_t order_count,
                            uint32_t reference, uint64_t *volumes, size_t volumes_length);
+
+/*
+ * These two keep a list of orders, and its price, current. The list is lent with its
+ * count: *count orders are held, at its first places. To begin with, *count is 0, and
+ * the list may hold anything: what stands past the count is never asked. A list may
+ * have any length; at most GUVONTSIRA_MAX_AUCTION_ORDERS orders are held in it.
+ *
+ * guvontsira_auction_add adds the order at the end. guvontsira_auction_take takes out
+ * the order at the place, counted from 0, and closes the gap: each order behind it
+ * stands one place lower afterwards. Then *count is one more or one less, every place
+ * of the list past the count is zero (side, price and volume), to the end of the list,
+ * however long it is, and the answer and the volumes are those that
+ * guvontsira_auction_volumes gives for the orders held. They are worked out afresh: the
+ * reference may be another one in each call, the scratch list may hold anything before
+ * it, and the time grows as there, and with the length of the list.
+ *
+ * Refused with 14, first, if the count is above the length of the list or above
+ * GUVONTSIRA_MAX_AUCTION_ORDERS (to add, also if it equals either), or the scratch list
+ * has fewer than GUVONTSIRA_MAX_AUCTION_ORDERS places; then with 15, if the order to be
+ * added or one held is bad, also the one to be taken out; last, by
+ * guvontsira_auction_take, with 16 if the place is at or beyond the count. After a
+ * refusal the list, the count and the volumes are untouched.
+ *
+ * Owed, as by every caller: the list, the count and the scratch list overlap nothing
+ * else that is handed in.
+ */
+struct guvontsira_auction_answer
+guvontsira_auction_add(struct guvontsira_auction_order *orders, size_t orders_length,
+                       size_t *count, struct guvontsira_auction_order order,
+                       uint32_t reference, uint64_t *volumes, size_t volumes_length);
+struct guvontsira_auction_answer
+guvontsira_auction_take(struct guvontsira_auction_order *orders, size_t orders_length,
+                        size_t *count, size_t place, uint32_t reference,
+                        uint64_t *volumes, size_t volumes_length);
 
 /* The ladder position of a price in satang; 0 if it is off the ladder. */
 uint32_t guvontsira_position(uint32_t price);

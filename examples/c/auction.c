@@ -1,7 +1,8 @@
 /*
  * The price that an auction of source document 002's book would give: with two
- * scratch lists and the sums at the price of each limit, and with one scratch list
- * and the volume at the place of each order. Valid in C++ too.
+ * scratch lists and the sums at the price of each limit; with one scratch list and
+ * the volume at the place of each order; and kept current while the book's orders
+ * are added one after another and two are taken out. Valid in C++ too.
  *
  *     cc -std=c11 -Wall -Wextra -Werror -I include examples/c/auction.c \
  *        target/staticlib/libguvontsira.a -o target/c-auction && target/c-auction
@@ -26,6 +27,10 @@ static const struct guvontsira_auction_order orders[] = {
 static uint64_t buyers[GUVONTSIRA_MAX_AUCTION_ORDERS];
 static uint64_t sellers[GUVONTSIRA_MAX_AUCTION_ORDERS];
 static uint64_t volumes[GUVONTSIRA_MAX_AUCTION_ORDERS];
+
+/* The list that is kept current, with its count. */
+static struct guvontsira_auction_order held[GUVONTSIRA_MAX_AUCTION_ORDERS];
+static size_t count = 0;
 
 static void stop_if_refused(struct guvontsira_auction_answer answer)
 {
@@ -72,6 +77,34 @@ static void with_volumes(void)
     print_answer(answer);
 }
 
+static void add(struct guvontsira_auction_order order)
+{
+    const struct guvontsira_auction_answer answer = guvontsira_auction_add(
+        held, COUNT(held), &count, order, LAST_SALE, volumes, COUNT(volumes));
+    stop_if_refused(answer);
+    printf("add: held %zu ", count);
+    print_answer(answer);
+}
+
+static void take(size_t place)
+{
+    const struct guvontsira_auction_answer answer = guvontsira_auction_take(
+        held, COUNT(held), &count, place, LAST_SALE, volumes, COUNT(volumes));
+    stop_if_refused(answer);
+    printf("take %zu: held %zu ", place, count);
+    print_answer(answer);
+}
+
+static void kept_current(void)
+{
+    for (size_t i = 0; i < COUNT(orders); i++) {
+        add(orders[i]);
+    }
+    /* The sell of 2,500 at 102.00; then the ATO, which stands before it. */
+    take(7);
+    take(0);
+}
+
 int main(void)
 {
     if (guvontsira_version() != GUVONTSIRA_VERSION) {
@@ -80,5 +113,6 @@ int main(void)
     }
     with_sums();
     with_volumes();
+    kept_current();
     return EXIT_SUCCESS;
 }

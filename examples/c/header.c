@@ -950,6 +950,222 @@ static void auction_refusals(void)
     volumes_are(MOST_ORDERS, COUNT(volumes), HELD);
 }
 
+/* What request 7's calls are lent, and more: past some of their lengths. */
+struct lent {
+    struct guvontsira_auction_order list[2 * MOST_ORDERS];
+    size_t count;
+    uint64_t volumes[2 * MOST_ORDERS];
+};
+static struct lent lent, after;
+static size_t list_length, scratch_length;
+
+/* Past the count stand bad orders, which nobody asks. */
+static void lend(size_t length, const struct guvontsira_auction_order *held, size_t count,
+                 size_t volumes_length)
+{
+    const struct guvontsira_auction_order bad = {HELD, HELD, HELD};
+    list_length = length;
+    scratch_length = volumes_length;
+    lent.count = count;
+    for (size_t place = 0; place < COUNT(lent.list); place++) {
+        lent.list[place] = place < count ? held[place] : bad;
+        lent.volumes[place] = HELD;
+    }
+    after = lent;
+}
+
+/* Those that agree are not listed: there are hundreds. */
+static void agree(const char *name, size_t expected, size_t found)
+{
+    if (expected != found) {
+        same(name, lent.count, expected, found);
+    }
+}
+
+/* "worked out afresh from the list", and "places past the count are zero afterwards". */
+static void keeps(struct guvontsira_auction_answer answer, uint32_t reference)
+{
+    if (answer.refusal == 0) {
+        memset(after.list + after.count, 0, (list_length - after.count) * sizeof after.list[0]);
+        const struct guvontsira_auction_answer afresh = guvontsira_auction_volumes(
+            after.list, after.count, reference, after.volumes, scratch_length);
+        agree("price, orders held", afresh.price, answer.price);
+        agree("volume, orders held", afresh.volume, answer.volume);
+        agree("refusal afresh, orders held", 0, afresh.refusal);
+    } else {
+        agree("price of a refusal, orders held", 0, answer.price);
+        agree("volume of a refusal, orders held", 0, answer.volume);
+    }
+    agree("count, orders held", after.count, lent.count);
+    agree("list, orders held", 0, memcmp(lent.list, after.list, sizeof lent.list) != 0);
+    agree("volumes, orders held", 0,
+          memcmp(lent.volumes, after.volumes, sizeof lent.volumes) != 0);
+}
+
+static struct guvontsira_auction_answer add(struct guvontsira_auction_order order,
+                                            uint32_t reference)
+{
+    const struct guvontsira_auction_answer answer = guvontsira_auction_add(
+        lent.list, list_length, &lent.count, order, reference, lent.volumes, scratch_length);
+    if (answer.refusal == 0) {
+        after.list[after.count++] = order;
+    }
+    keeps(answer, reference);
+    return answer;
+}
+
+static struct guvontsira_auction_answer take(size_t place, uint32_t reference)
+{
+    const struct guvontsira_auction_answer answer = guvontsira_auction_take(
+        lent.list, list_length, &lent.count, place, reference, lent.volumes, scratch_length);
+    if (answer.refusal == 0) {
+        after.count--;
+        for (; place < after.count; place++) {
+            after.list[place] = after.list[place + 1];
+        }
+    }
+    keeps(answer, reference);
+    return answer;
+}
+
+/* Document 003's book built up and taken down. */
+static void current_book(size_t length, size_t volumes_length)
+{
+    lend(length, book_003, 0, volumes_length);
+    auction_gives(add(book_003[0], 0), 0, 0);
+    auction_gives(add(book_003[1], UINT32_MAX), 0, 0);
+    auction_gives(add(book_003[2], 0), 4900, 400);
+    auction_gives(add(book_003[3], 0), 4900, 400);
+    auction_gives(add(book_003[4], UINT32_MAX), 4900, 900);
+    same("orders held", 5, 5, lent.count);
+    same("volume at place 1", 600, 600, lent.volumes[1]);
+    /* One between two others, the first, the last. */
+    auction_gives(take(2, 0), 4900, 600);
+    auction_gives(take(0, 0), 4800, 300);
+    same("orders held", 3, 3, lent.count);
+    same("volume at place 0", 300, 300, lent.volumes[0]);
+    auction_gives(take(2, 0), 0, 0);
+    ANSWERS(AUCTION_REFUSED_PLACE, take(2, 0).refusal);
+    auction_gives(take(1, 0), 0, 0);
+    auction_gives(take(0, 0), 0, 0);
+    ANSWERS(AUCTION_REFUSED_PLACE, take(0, 0).refusal);
+    same("orders held", 0, 0, lent.count);
+}
+
+/* Request 7. */
+static void current_auctions(void)
+{
+    const struct guvontsira_auction_order pair[] = {{BUY, 200, 100}, {SELL, 206, 100},
+                                                    {BUY, 0, 100}};
+    const struct guvontsira_auction_order sell = {SELL, 0, 100};
+
+    /* In a list that it fills, in one of as many places as may be filled, in a longer one. */
+    current_book(COUNT(book_003), 2 * MOST_ORDERS);
+    current_book(MOST_ORDERS, MOST_ORDERS);
+    current_book(2 * MOST_ORDERS, MOST_ORDERS);
+
+    /* Each call has a reference of its own. */
+    lend(MOST_ORDERS, pair, COUNT(pair), MOST_ORDERS);
+    auction_gives(add(sell, 202), 200, 100);
+    auction_gives(take(3, 202), 206, 100);
+    auction_gives(add(sell, 203), 206, 100);
+    auction_gives(add(sell, 0), 200, 200);
+    auction_gives(take(4, UINT32_MAX), 206, 100);
+    auction_gives(add(sell, UINT32_MAX), 200, 200);
+    auction_gives(take(3, 202), 200, 100);
+}
+
+/* What each call is refused with by its lengths, all orders being good; 0 is not refused. */
+static const struct {
+    size_t length, count, volumes_length;
+    uint32_t add, take;
+} edges[] = {
+    {0, 0, MOST_ORDERS, 14, 16},
+    {0, 1, MOST_ORDERS, 14, 14},
+    {1, 0, MOST_ORDERS, 0, 16},
+    {1, 1, MOST_ORDERS, 14, 0},
+    {1, 2, MOST_ORDERS, 14, 14},
+    {MOST_ORDERS, 0, MOST_ORDERS, 0, 16},
+    {MOST_ORDERS, 0, MOST_ORDERS - 1, 14, 14},
+    {MOST_ORDERS, 1, 0, 14, 14},
+    {MOST_ORDERS, MOST_ORDERS - 1, MOST_ORDERS, 0, 0},
+    {MOST_ORDERS, MOST_ORDERS, MOST_ORDERS, 14, 0},
+    {MOST_ORDERS, MOST_ORDERS + 1, MOST_ORDERS, 14, 14},
+    {2 * MOST_ORDERS, 1, 2 * MOST_ORDERS, 0, 0},
+    {2 * MOST_ORDERS, MOST_ORDERS - 1, MOST_ORDERS, 0, 0},
+    {2 * MOST_ORDERS, MOST_ORDERS, 2 * MOST_ORDERS, 14, 0},
+    {2 * MOST_ORDERS, MOST_ORDERS + 1, 2 * MOST_ORDERS, 14, 14},
+    {2 * MOST_ORDERS, SIZE_MAX, MOST_ORDERS, 14, 14},
+};
+
+static void current_auction_lengths(void)
+{
+    const struct guvontsira_auction_order good = {BUY, 5000, 100}, bad = {BUY, 5001, 100};
+    static struct guvontsira_auction_order held[2 * MOST_ORDERS];
+
+    for (size_t place = 0; place < COUNT(held); place++) {
+        held[place] = good;
+    }
+    for (size_t edge = 0; edge < COUNT(edges); edge++) {
+        const size_t length = edges[edge].length, count = edges[edge].count;
+        const size_t volumes_length = edges[edge].volumes_length;
+        const uint32_t adding = edges[edge].add, taking = edges[edge].take;
+        lend(length, held, count, volumes_length);
+        same("add refused", adding, adding, add(good, 0).refusal);
+        lend(length, held, count, volumes_length);
+        same("take refused", taking, taking, take(0, 0).refusal);
+        /* 14 is found before 15, and before 16. */
+        lend(length, held, count, volumes_length);
+        agree("add bad", adding == 0 ? 15 : adding, add(bad, 0).refusal);
+        agree("take beyond", taking == 0 ? 16 : taking, take(count, 0).refusal);
+        held[0] = bad;
+        lend(length, held, count, volumes_length);
+        agree("add to bad", count == 0 || adding != 0 ? adding : 15, add(good, 0).refusal);
+        lend(length, held, count, volumes_length);
+        agree("take bad", count == 0 || taking != 0 ? taking : 15, take(0, 0).refusal);
+        held[0] = good;
+    }
+    lend(2 * MOST_ORDERS, held, MOST_ORDERS - 1, MOST_ORDERS);
+    add(good, 0);
+    add(good, 0);
+    MEANS(MAX_AUCTION_ORDERS, MOST_ORDERS, lent.count);
+
+    lend(MOST_ORDERS, held, 3, MOST_ORDERS);
+    agree("beyond", 16, take(4, 0).refusal);
+    agree("beyond", 16, take(MOST_ORDERS, 0).refusal);
+    agree("beyond", 16, take((size_t)1 << 32, 0).refusal);
+    agree("beyond", 16, take(SIZE_MAX, 0).refusal);
+}
+
+/* A bad order, to be added or held in each of three places, one field at a time. */
+static void current_auction_orders(void)
+{
+    const struct guvontsira_auction_order good = {SELL, GUVONTSIRA_MAX_PRICE,
+                                                  GUVONTSIRA_MAX_VOLUME};
+    const struct guvontsira_auction_order bad[] = {
+        {SELL + 1, GUVONTSIRA_MAX_PRICE, GUVONTSIRA_MAX_VOLUME},
+        {SELL, GUVONTSIRA_MAX_PRICE - 1, GUVONTSIRA_MAX_VOLUME},
+        {SELL, GUVONTSIRA_MAX_PRICE + 200, GUVONTSIRA_MAX_VOLUME},
+        {SELL, GUVONTSIRA_MAX_PRICE, 0},
+        {SELL, GUVONTSIRA_MAX_PRICE, GUVONTSIRA_MAX_VOLUME + 1}};
+
+    for (size_t field = 0; field < COUNT(bad); field++) {
+        struct guvontsira_auction_order held[] = {good, good, good};
+        lend(MOST_ORDERS, held, COUNT(held), MOST_ORDERS);
+        ANSWERS(AUCTION_REFUSED_ORDER, add(bad[field], 0).refusal);
+        for (size_t place = 0; place < COUNT(held); place++) {
+            held[place] = bad[field];
+            lend(MOST_ORDERS, held, COUNT(held), MOST_ORDERS);
+            agree("add to bad", 15, add(good, 0).refusal);
+            /* Also where it is the one to be taken out; and 15 is found before 16. */
+            agree("take of bad", 15, take(0, 0).refusal);
+            agree("take of bad", 15, take(2, 0).refusal);
+            agree("take beyond of bad", 15, take(3, 0).refusal);
+            held[place] = good;
+        }
+    }
+}
+
 /* Every number that has words; those of the day program's listing. */
 static void texts(void)
 {
@@ -1006,6 +1222,9 @@ static void deepest(void)
     guvontsira_ceiling(words, COUNT(words), 0);
     guvontsira_auction(book_002, COUNT(book_002), 0, buyers, MOST_ORDERS, sellers, MOST_ORDERS);
     guvontsira_auction_volumes(book_002, COUNT(book_002), 0, volumes, MOST_ORDERS);
+    guvontsira_auction_add(lent.list, MOST_ORDERS, &lent.count, book_002[0], 0, volumes,
+                           MOST_ORDERS);
+    guvontsira_auction_take(lent.list, MOST_ORDERS, &lent.count, 0, 0, volumes, MOST_ORDERS);
     guvontsira_price(77);
     guvontsira_lower_position(6560);
     guvontsira_upper_position(6560);
@@ -1018,6 +1237,7 @@ static void depth(void)
     size_t untouched = 0;
 
     make();
+    lend(MOST_ORDERS, book_002, COUNT(book_002), MOST_ORDERS);
     memset(stack, unused, sizeof stack);
     getcontext(&there);
     there.uc_stack.ss_sp = stack;
@@ -1055,6 +1275,9 @@ int main(void)
     full_desk();
     auctions();
     auction_refusals();
+    current_auctions();
+    current_auction_lengths();
+    current_auction_orders();
     texts();
     depth();
     return status;

@@ -1,5 +1,5 @@
 """Hands the paper's example events, and some of every other kind, to the gate by ctypes, lists the answers and reads a customer's desk;
-then asks for the price of an auction, with the volume at the price of each of its orders.
+then asks for the price of an auction, with the volume at the price of each of its orders, and keeps it current while orders come and go.
 
 The archive as a shared object, from the project's root; then this program:
 
@@ -12,7 +12,7 @@ import pathlib
 import struct
 import sys
 
-VERSION = 40200  # GUVONTSIRA_VERSION of include/guvontsira.h, whose numbers stand here too
+VERSION = 40300  # GUVONTSIRA_VERSION of include/guvontsira.h, whose numbers stand here too
 
 CLOCK, SESSION, SETUP, PRICES, ORDER, CANCEL, MATCH, REST, FIGURES = range(1, 10)
 CLOSED, PRE_OPEN, OPEN, BREAK, PRE_CLOSE = range(5)
@@ -79,6 +79,11 @@ def load(path):
     library.guvontsira_auction.restype = AuctionAnswer
     library.guvontsira_auction_volumes.argtypes = [*orders, ctypes.c_uint32, *scratch]
     library.guvontsira_auction_volumes.restype = AuctionAnswer
+    held = [*orders, ctypes.POINTER(ctypes.c_size_t)]
+    library.guvontsira_auction_add.argtypes = [*held, AuctionOrder, ctypes.c_uint32, *scratch]
+    library.guvontsira_auction_add.restype = AuctionAnswer
+    library.guvontsira_auction_take.argtypes = [*held, ctypes.c_size_t, ctypes.c_uint32, *scratch]
+    library.guvontsira_auction_take.restype = AuctionAnswer
     return library
 
 
@@ -141,6 +146,33 @@ def auction_volumes(library, orders, reference):
     return given(answer), volumes[: len(orders)]
 
 
+class CurrentAuction:
+    """A list of orders with its count, and its price after each call."""
+
+    def __init__(self, library):
+        self.library = library
+        self.orders = (AuctionOrder * MAX_AUCTION_ORDERS)()
+        self.count = ctypes.c_size_t(0)
+        self.scratch = Scratch()
+
+    def add(self, order, reference):
+        """Adds the order at the end."""
+        return given(self.library.guvontsira_auction_add(*self._list(), AuctionOrder(*order), reference, *self._volumes()))
+
+    def take(self, place, reference):
+        """Takes out the order at the place, from 0, and closes the gap."""
+        return given(self.library.guvontsira_auction_take(*self._list(), place, reference, *self._volumes()))
+
+    def volumes(self):
+        return self.scratch[: self.count.value]
+
+    def _list(self):
+        return self.orders, len(self.orders), ctypes.byref(self.count)
+
+    def _volumes(self):
+        return self.scratch, len(self.scratch)
+
+
 DAY = [
     (SESSION, OPEN),
     (PRICES, 0, MAIN, 0, 5000, 4975, 5025),
@@ -189,6 +221,16 @@ def main():
     print(f"auction: price {price / 100:.2f}, volume {volume}")
     (price, volume), volumes = auction_volumes(library, BOOK, 0)
     print(f"with one scratch list: price {price / 100:.2f}, volume {volume}; at the orders' places {volumes}")
+    current = CurrentAuction(library)
+    for order in BOOK:
+        price, volume = current.add(order, 0)
+    print(f"kept current: price {price / 100:.2f}, volume {volume}; at the orders' places {current.volumes()}")
+    price, volume = current.take(0, 0)
+    print(f"without the buy at 49.00: price {price / 100:.2f}, volume {volume}; at the orders' places {current.volumes()}")
+    try:
+        current.take(4, 0)
+    except ValueError as refusal:
+        print(f"four orders are held, and none at place 4: {refusal}")
 
 
 if __name__ == "__main__":
