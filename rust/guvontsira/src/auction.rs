@@ -1,7 +1,8 @@
 //! The price that an auction would give, with two scratch lists; with one in
-//! `volumes`.
+//! `volumes`, and kept while orders come and go in `current`.
 
 mod answer;
+mod current;
 mod orders;
 mod volumes;
 
@@ -10,12 +11,13 @@ use std::fmt;
 use crate::library;
 
 pub use answer::AuctionAnswer;
+pub use current::CurrentAuction;
 pub use orders::{AuctionOrder, MAX_AUCTION_ORDERS};
 use orders::{BareOrders, scratch};
 pub use volumes::AuctionVolumes;
 
 /// What the library is lent for an auction, made once and used for every call: two
-/// scratch lists. [`AuctionVolumes`] has one.
+/// scratch lists. [`AuctionVolumes`] has one; [`CurrentAuction`] owns the orders too.
 ///
 /// ```
 /// use guvontsira::{Auction, AuctionAnswer, AuctionOrder, Side};

@@ -37,7 +37,9 @@ mod state;
 mod time;
 
 pub use answer::{Answer, Refused, Rule};
-pub use auction::{Auction, AuctionAnswer, AuctionOrder, AuctionVolumes, MAX_AUCTION_ORDERS};
+pub use auction::{
+    Auction, AuctionAnswer, AuctionOrder, AuctionVolumes, CurrentAuction, MAX_AUCTION_ORDERS,
+};
 pub use codes::{Board, Channel, Mark, OrderType, Session, Side};
 pub use desk::{Desk, Row};
 pub use event::{Event, MAX_VOLUME};

@@ -1,4 +1,4 @@
-//! The library's thirteen functions over slices, with its bare numbers. All unsafe
+//! The library's fifteen functions over slices, with its bare numbers. All unsafe
 //! code of the crate is here.
 //!
 //! Every function is total: any words and any bytes may be handed in, and a
@@ -16,8 +16,8 @@ pub struct AuctionOrder {
     pub volume: u32,
 }
 
-/// The answer of [`auction`] and of [`auction_volumes`]: a price above 0 with its
-/// volume, or both 0 for none; or the number of a refusal, and then both are 0.
+/// The answer of an auction's call: a price above 0 with its volume, or both 0 for
+/// none; or the number of a refusal, and then both are 0.
 #[repr(C)]
 #[derive(Clone, Copy, Debug, PartialEq, Eq)]
 pub struct AuctionNumbers {
@@ -75,6 +75,26 @@ unsafe extern "C" {
     fn guvontsira_auction_volumes(
         orders: *const AuctionOrder,
         order_count: usize,
+        reference: u32,
+        volumes: *mut u64,
+        volumes_length: usize,
+    ) -> AuctionNumbers;
+
+    fn guvontsira_auction_add(
+        orders: *mut AuctionOrder,
+        orders_length: usize,
+        count: *mut usize,
+        order: AuctionOrder,
+        reference: u32,
+        volumes: *mut u64,
+        volumes_length: usize,
+    ) -> AuctionNumbers;
+
+    fn guvontsira_auction_take(
+        orders: *mut AuctionOrder,
+        orders_length: usize,
+        count: *mut usize,
+        place: usize,
         reference: u32,
         volumes: *mut u64,
         volumes_length: usize,
@@ -198,6 +218,61 @@ pub fn auction_volumes(
         guvontsira_auction_volumes(
             orders.as_ptr(),
             orders.len(),
+            reference,
+            volumes.as_mut_ptr(),
+            volumes.len(),
+        )
+    }
+}
+
+/// Adds an order at the end of the list, whose first `count` places are held; what
+/// stands past them is never asked. After a call that is not refused the count is one
+/// more, every place of the list past it is zero, to its end, and the answer and the
+/// volumes are those of [`auction_volumes`] for the orders held. Refused with 14 if the
+/// count is the list's length or 1,024, or above one of these, or the scratch list has
+/// fewer than 1,024 places; then with 15 if the order, or one held, is bad. A refusal
+/// leaves the list, the count and the volumes.
+pub fn auction_add(
+    orders: &mut [AuctionOrder],
+    count: &mut usize,
+    order: AuctionOrder,
+    reference: u32,
+    volumes: &mut [u64],
+) -> AuctionNumbers {
+    // SAFETY: pointers and lengths are those of two borrowed slices and of a number;
+    // all three are written, and they overlap nothing. The structs have C's layout.
+    unsafe {
+        guvontsira_auction_add(
+            orders.as_mut_ptr(),
+            orders.len(),
+            count,
+            order,
+            reference,
+            volumes.as_mut_ptr(),
+            volumes.len(),
+        )
+    }
+}
+
+/// Takes out the order at the place, counted from 0, and closes the gap; the count is
+/// one less afterwards, and all else as with [`auction_add`]. Refused with 14 if the
+/// count is above the list's length or above 1,024, or the scratch list has fewer than
+/// 1,024 places; then with 15 if an order held is bad, also the one at the place; then
+/// with 16 if the place is at or beyond the count.
+pub fn auction_take(
+    orders: &mut [AuctionOrder],
+    count: &mut usize,
+    place: usize,
+    reference: u32,
+    volumes: &mut [u64],
+) -> AuctionNumbers {
+    // SAFETY: as in `auction_add`.
+    unsafe {
+        guvontsira_auction_take(
+            orders.as_mut_ptr(),
+            orders.len(),
+            count,
+            place,
             reference,
             volumes.as_mut_ptr(),
             volumes.len(),

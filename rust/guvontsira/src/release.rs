@@ -10,7 +10,7 @@ pub const VERSION: u32 = 10_000 * number(env!("CARGO_PKG_VERSION_MAJOR"))
     + 100 * number(env!("CARGO_PKG_VERSION_MINOR"))
     + number(env!("CARGO_PKG_VERSION_PATCH"));
 
-/// The same as text, `4.2.0`.
+/// The same as text, `4.3.0`.
 pub const RELEASE: &str = env!("CARGO_PKG_VERSION");
 
 const fn number(digits: &str) -> u32 {

@@ -6,8 +6,8 @@ use std::hint::black_box;
 use std::sync::atomic::{AtomicUsize, Ordering};
 
 use guvontsira::{
-    Answer, Auction, AuctionAnswer, AuctionOrder, AuctionVolumes, Board, Channel, Event,
-    MAX_AUCTION_ORDERS, OrderType, Session, Side, State, Time,
+    Answer, Auction, AuctionAnswer, AuctionOrder, AuctionVolumes, Board, Channel, CurrentAuction,
+    Event, MAX_AUCTION_ORDERS, OrderType, Session, Side, State, Time,
 };
 
 struct Counting;
@@ -159,6 +159,7 @@ fn auctions() {
     let orders = [order; MAX_AUCTION_ORDERS + 2];
     let mut auction = Auction::new();
     let mut volumes = AuctionVolumes::new();
+    let mut current = CurrentAuction::new();
     let asked = least(|| {
         let (longest, longer) = (&orders[..MAX_AUCTION_ORDERS], &orders);
         assert!(auction.price(longest, 0) == AuctionAnswer::None);
@@ -167,6 +168,10 @@ fn auctions() {
         assert!(volumes.price(longest, 0) == AuctionAnswer::None);
         assert!(volumes.volumes()[0] == 0);
         assert!(volumes.price(longer, 0) == AuctionAnswer::Refused(14));
+        assert!(current.add(order, 0) == AuctionAnswer::None);
+        assert!(current.orders().eq([order]) && current.volumes()[0] == 0);
+        assert!(current.take(1, 0) == AuctionAnswer::Refused(16));
+        assert!(current.take(0, 0) == AuctionAnswer::None);
     });
     assert_eq!(asked, 0);
 }

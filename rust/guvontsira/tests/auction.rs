@@ -6,7 +6,7 @@ mod common;
 use guvontsira::{Auction, AuctionAnswer, AuctionOrder, AuctionVolumes, MAX_AUCTION_ORDERS, Side};
 use guvontsira::{MAX_POSITION, MAX_PRICE, MAX_VOLUME, library, price};
 
-use common::book;
+use common::{at_auction, bare, book, given, limit, numbers};
 
 /// With two scratch lists and with one.
 #[derive(Default)]
@@ -36,26 +36,6 @@ impl Both {
 fn answer(text: &str) -> AuctionAnswer {
     let (orders, reference) = book(text);
     Both::default().price(&orders, reference)
-}
-
-fn given(price: u32, volume: u64) -> AuctionAnswer {
-    AuctionAnswer::Price { price, volume }
-}
-
-fn limit(side: Side, price: u32, volume: u32) -> AuctionOrder {
-    AuctionOrder {
-        side,
-        price: Some(price),
-        volume,
-    }
-}
-
-fn at_auction(side: Side, volume: u32) -> AuctionOrder {
-    AuctionOrder {
-        side,
-        price: None,
-        volume,
-    }
 }
 
 /// Each step decides where those before it leave two prices equal.
@@ -198,22 +178,6 @@ fn beside_the_request() {
         assert_eq!(left, orders.iter().map(at).collect::<Vec<_>>());
     }
     assert!((100..1_900).contains(&nones), "{nones}");
-}
-
-fn bare(side: u32, price: u32, volume: u32) -> library::AuctionOrder {
-    library::AuctionOrder {
-        side,
-        price,
-        volume,
-    }
-}
-
-fn numbers(volume: u64, price: u32, refusal: u32) -> library::AuctionNumbers {
-    library::AuctionNumbers {
-        volume,
-        price,
-        refusal,
-    }
 }
 
 /// The bare call: places past the orders, refusals, and longer lists.

@@ -5,10 +5,11 @@ mod common;
 
 use std::fs;
 
-use guvontsira::{Answer, Auction, AuctionAnswer, AuctionVolumes};
+use events::Change;
+use guvontsira::{Answer, Auction, AuctionAnswer, AuctionVolumes, CurrentAuction};
 use guvontsira::{Nearest, Range, State, nearest, position, price};
 
-use common::book;
+use common::{book, typed};
 
 fn document(name: &str) -> String {
     let path = format!("{}/../../docs/{name}", env!("CARGO_MANIFEST_DIR"));
@@ -313,6 +314,10 @@ fn auction(orders: &str, reference: &str) -> String {
     let (orders, reference) = book(&format!("reference {reference}\n{lines}"));
     let answer = Auction::new().price(&orders, reference);
     assert_eq!(AuctionVolumes::new().price(&orders, reference), answer);
+    in_words(answer)
+}
+
+fn in_words(answer: AuctionAnswer) -> String {
     match answer {
         AuctionAnswer::Price { price, volume } => format!("{} x {volume}", events::Price(price)),
         AuctionAnswer::None => "none".into(),
@@ -346,6 +351,27 @@ fn the_volumes_of_an_auction() {
     let mut auction = AuctionVolumes::new();
     auction.price(&orders, reference);
     assert_eq!(auction.volumes(), printed);
+}
+
+#[test]
+fn the_current_auction() {
+    let rules = document("RULES.md");
+    let rows = rows(section(&rules, "An auction kept current"));
+    let mut auction = CurrentAuction::new();
+    let changes = rows.iter().filter(|row| row.len() == 4);
+    for row in changes.clone() {
+        let reference = book(&format!("reference {}", row[1])).1;
+        let answer = match events::change(&row[0], 1) {
+            Ok(Some(Change::Add(order))) => auction.add(typed(&order), reference),
+            Ok(Some(Change::Take { place })) => auction.take(place, reference),
+            other => panic!("{row:?}: {other:?}"),
+        };
+        assert_eq!(auction.len().to_string(), row[2], "{row:?}");
+        assert_eq!(in_words(answer), row[3], "{row:?}");
+    }
+    assert!(changes.count() > 12);
+    let refusals = rows.iter().filter_map(|row| row[0].parse().ok());
+    assert_eq!(refusals.collect::<Vec<u8>>(), [14, 15, 16]);
 }
 
 fn back(line: &str) -> String {
@@ -388,6 +414,9 @@ fn the_text_form() {
         }
     }
     assert!(books > 5);
+    for row in rows(section(&text, "Errors in changes")) {
+        assert_eq!(events::change(&row[0], 1).unwrap_err().to_string(), row[1]);
+    }
     for row in rows(section(&text, "Errors in bytes")) {
         let bytes = events::encode(&row[0]).unwrap();
         assert_eq!(events::decode(&bytes).unwrap_err().to_string(), row[1]);

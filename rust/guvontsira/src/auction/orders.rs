@@ -1,6 +1,6 @@
 //! The orders of an auction, and the copy of them that the library is handed.
 
-use super::answer::{AuctionAnswer, known};
+use super::answer::{AuctionAnswer, OF_ORDERS, known};
 use crate::codes::Side;
 use crate::library;
 use crate::release::check_linked;
@@ -20,7 +20,7 @@ pub struct AuctionOrder {
 }
 
 impl AuctionOrder {
-    fn bare(self) -> library::AuctionOrder {
+    pub(super) fn bare(self) -> library::AuctionOrder {
         library::AuctionOrder {
             side: self.side.code().into(),
             price: match self.price {
@@ -31,6 +31,15 @@ impl AuctionOrder {
                 Some(price) => price,
             },
             volume: self.volume,
+        }
+    }
+
+    /// One that the library took.
+    pub(super) fn held(bare: &library::AuctionOrder) -> AuctionOrder {
+        AuctionOrder {
+            side: Side::from_code(bare.side).expect("the library holds no other side"),
+            price: (bare.price != 0).then_some(bare.price),
+            volume: bare.volume,
         }
     }
 }
@@ -47,13 +56,8 @@ pub(super) struct BareOrders {
 impl BareOrders {
     pub fn new() -> BareOrders {
         check_linked();
-        let zero = library::AuctionOrder {
-            side: 0,
-            price: 0,
-            volume: 0,
-        };
         BareOrders {
-            places: vec![zero; MAX_AUCTION_ORDERS + 1].into(),
+            places: list(MAX_AUCTION_ORDERS + 1),
             filled: 0,
         }
     }
@@ -68,7 +72,7 @@ impl BareOrders {
             *place = order.bare();
         }
         let count = orders.len().min(self.places.len());
-        let answer = known(call(&self.places[..count]));
+        let answer = known(call(&self.places[..count]), OF_ORDERS);
         // After a refusal the lists hold what an earlier call left.
         self.filled = match answer {
             AuctionAnswer::Refused(_) => 0,
@@ -81,6 +85,16 @@ impl BareOrders {
     pub fn left<'a>(&self, list: &'a [u64]) -> &'a [u64] {
         &list[..self.filled]
     }
+}
+
+/// A list of orders, every place zero.
+pub(super) fn list(places: usize) -> Box<[library::AuctionOrder]> {
+    let zero = library::AuctionOrder {
+        side: 0,
+        price: 0,
+        volume: 0,
+    };
+    vec![zero; places].into()
 }
 
 /// A scratch list for any call.

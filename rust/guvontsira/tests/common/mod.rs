@@ -1,14 +1,56 @@
-//! Books of auctions as text.
+//! Books of auctions as text; orders and answers, typed and bare.
 
-use guvontsira::{AuctionOrder, Side};
+// No file of tests uses all of it.
+#![allow(dead_code)]
+
+use guvontsira::{AuctionAnswer, AuctionOrder, Side, library};
 
 /// The orders and the reference of a text.
 pub fn book(text: &str) -> (Vec<AuctionOrder>, u32) {
     let book = events::book(text).unwrap_or_else(|wrong| panic!("{text}: {wrong}"));
-    let orders = book.orders.iter().map(|order| AuctionOrder {
+    (book.orders.iter().map(typed).collect(), book.reference)
+}
+
+pub fn typed(order: &events::BookOrder) -> AuctionOrder {
+    AuctionOrder {
         side: Side::from_code(order.side.into()).unwrap(),
         price: order.price,
         volume: order.volume,
-    });
-    (orders.collect(), book.reference)
+    }
+}
+
+pub fn given(price: u32, volume: u64) -> AuctionAnswer {
+    AuctionAnswer::Price { price, volume }
+}
+
+pub fn limit(side: Side, price: u32, volume: u32) -> AuctionOrder {
+    AuctionOrder {
+        side,
+        price: Some(price),
+        volume,
+    }
+}
+
+pub fn at_auction(side: Side, volume: u32) -> AuctionOrder {
+    AuctionOrder {
+        side,
+        price: None,
+        volume,
+    }
+}
+
+pub fn bare(side: u32, price: u32, volume: u32) -> library::AuctionOrder {
+    library::AuctionOrder {
+        side,
+        price,
+        volume,
+    }
+}
+
+pub fn numbers(volume: u64, price: u32, refusal: u32) -> library::AuctionNumbers {
+    library::AuctionNumbers {
+        volume,
+        price,
+        refusal,
+    }
 }
