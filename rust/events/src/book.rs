@@ -8,7 +8,8 @@ use crate::format::{Code, Price};
 use crate::line_words::LineWords;
 use crate::words::{LIMIT, SIDES, TYPES};
 
-const REFERENCE: &str = "reference";
+/// Of a line that gives the reference price.
+pub const REFERENCE: &str = "reference";
 
 /// What a line begins with.
 const FIRST_WORDS: [&str; 3] = [SIDES.words[0], SIDES.words[1], REFERENCE];
@@ -24,7 +25,7 @@ pub struct Book {
     pub orders: Vec<BookOrder>,
 }
 
-/// An order of a book. `Display` gives its line.
+/// An order of a book, or one that is added to a list. `Display` gives its words.
 #[derive(Clone, Copy, Debug, PartialEq, Eq)]
 pub struct BookOrder {
     /// From 1.
@@ -53,7 +54,11 @@ pub fn book(text: &str) -> Result<Book, Wrong> {
                     return Err(wrong(format!("{REFERENCE:?} stands twice")));
                 }
             }
-            Some(first) => orders.push(order(first, line, &mut words).map_err(wrong)?),
+            Some(first) => {
+                let side = SIDES.code(first);
+                let side = side.ok_or_else(|| wrong(expected(first, AnyOf(&FIRST_WORDS))))?;
+                orders.push(order(side, line, &mut words).map_err(wrong)?);
+            }
         }
         words.end().map_err(wrong)?;
     }
@@ -63,10 +68,8 @@ pub fn book(text: &str) -> Result<Book, Wrong> {
     })
 }
 
-fn order(first: &str, line: usize, words: &mut LineWords) -> Result<BookOrder, String> {
-    let side = SIDES
-        .code(first)
-        .ok_or_else(|| expected(first, AnyOf(&FIRST_WORDS)))?;
+/// What follows the side.
+pub fn order(side: u8, line: usize, words: &mut LineWords) -> Result<BookOrder, String> {
     let order_type = words.read(AnyOf(AUCTION_TYPES), |word| {
         TYPES.code(word).filter(|_| AUCTION_TYPES.contains(&word))
     })?;

@@ -1,5 +1,5 @@
-//! Events of the order gate as text, one line an event; and an auction's book, one
-//! line an order.
+//! Events of the order gate as text, one line an event; an auction's book, one line an
+//! order; and the changes of an auction's list, one line a change.
 //!
 //! ```text
 //! # What follows a number sign is a comment.
@@ -50,10 +50,25 @@
 //!
 //! - `buy` or `sell`; `limit` and a price, or `ato` or `atc`; `x` and the volume.
 //! - `reference` and a price, on one line at most; without it the reference is 0.
+//!
+//! Orders that come and go are a third text:
+//!
+//! ```text
+//! reference 49.50
+//! add buy limit 49.00 x 900
+//! add sell ato x 600
+//! take 0
+//! ```
+//!
+//! - `add`, and the words of an order of a book: it is added at the end.
+//! - `take` and a place, from 0: the order there is taken out.
+//! - `reference` and a price, on any number of lines: it is the reference of the changes
+//!   after it, and 0 that of those before the first.
 
 #![forbid(unsafe_code)]
 
 mod book;
+mod change;
 mod convert;
 mod expected;
 mod format;
@@ -63,6 +78,7 @@ mod values;
 pub mod words;
 
 pub use book::{Book, BookOrder, book};
+pub use change::{Change, change};
 pub use convert::{Broken, Wrong, decode, encode, encode_each, line, lines, split, text};
 pub use expected::{AnyOf, expected};
 pub use format::{Code, Price};

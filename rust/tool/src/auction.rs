@@ -1,5 +1,6 @@
 //! The price that an auction would give, and what is said to a book that is refused.
 
+pub mod follow;
 pub mod prices;
 pub mod volumes;
 
@@ -53,12 +54,16 @@ fn title(out: &mut impl Write, book: &Book) -> io::Result<()> {
 fn last_line(out: &mut impl Write, book: &Book, given: Given) -> io::Result<()> {
     let is_limit = |order: &BookOrder| order.price.is_some();
     match given {
-        Some((price, volume)) => writeln!(out, "projected price {}, volume {volume}", Price(price)),
+        Some((price, volume)) => writeln!(out, "{}", projected(price, volume)),
         None if book.orders.iter().any(is_limit) => {
             writeln!(out, "no projected price: no limit's price has volume")
         }
         None => writeln!(out, "no projected price: no limit in the book"),
     }
+}
+
+fn projected(price: u32, volume: u64) -> String {
+    format!("projected price {}, volume {volume}", Price(price))
 }
 
 /// The library does not say which order it refuses: each is handed in alone.
@@ -70,11 +75,11 @@ fn refused(
     let is_refused =
         |order: &&BookOrder| matches!(call(&[typed(order)]), AuctionAnswer::Refused(_));
     let (line, reason) = match book.orders.get(MAX_AUCTION_ORDERS) {
-        Some(order) => (order.line, format!("more than {MAX_AUCTION_ORDERS} orders")),
+        Some(order) => (order.line, too_many()),
         None => {
             let bad = book.orders.iter().find(is_refused);
             let bad = bad.expect("a list is refused for an order in it");
-            (bad.line, reason(bad))
+            (bad.line, bad_order(bad))
         }
     };
     Wrong {
@@ -83,7 +88,13 @@ fn refused(
     }
 }
 
-fn reason(order: &BookOrder) -> String {
+/// Why 14.
+fn too_many() -> String {
+    format!("more than {MAX_AUCTION_ORDERS} orders")
+}
+
+/// Why 15.
+fn bad_order(order: &BookOrder) -> String {
     match order.price.map(|price| (price, guvontsira::nearest(price))) {
         Some((price, None)) => format!("{} is above {}", Price(price), Price(MAX_PRICE)),
         Some((price, Some(nearest))) if !nearest.legal => standing(price, nearest),

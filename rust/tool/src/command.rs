@@ -34,6 +34,9 @@ pub enum Command {
         /// By order, and not by price.
         volumes: bool,
     },
+    Follow {
+        file: PathBuf,
+    },
     Encode {
         file: PathBuf,
     },
@@ -128,6 +131,9 @@ fn ladder(arguments: Arguments) -> Result<Command, Failure> {
 }
 
 fn auction(mut arguments: Arguments) -> Result<Command, Failure> {
+    if arguments.flag(&["--follow"]) {
+        return file_or_input(arguments).map(|file| Command::Follow { file });
+    }
     let volumes = arguments.flag(&["--volumes"]);
     let file = file_or_input(arguments)?;
     Ok(Command::Auction { file, volumes })

@@ -7,7 +7,7 @@ use std::process::ExitCode;
 pub enum Failure {
     /// The command line is not as the help says.
     Usage(String),
-    /// A file that cannot be read, or that is no day or no book.
+    /// A file that cannot be read, or that is no day, no book and no text of changes.
     Input(String),
     Output(io::Error),
 }

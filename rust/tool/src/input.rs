@@ -1,10 +1,10 @@
-//! Days and books from files and from standard input.
+//! Days, books and changes from files and from standard input.
 
-use std::fs;
-use std::io::{self, Read};
+use std::fs::{self, File};
+use std::io::{self, BufRead, BufReader, Read};
 use std::path::Path;
 
-use events::{Book, Wrong};
+use events::{Book, Change, Wrong};
 
 use crate::failure::Failure;
 
@@ -15,7 +15,7 @@ pub fn read(file: &Path) -> Result<Vec<u8>, Failure> {
         Some("-") => io::stdin().read_to_end(&mut bytes).map(|_| bytes),
         _ => fs::read(file),
     };
-    done.map_err(|error| Failure::Input(format!("{}: {error}", name(file))))
+    done.map_err(|error| unreadable(file, error))
 }
 
 /// The events of a day, text or bytes. In a text every line is one; in bytes an
@@ -42,6 +42,33 @@ pub fn book(file: &Path) -> Result<Book, Failure> {
     events::text(&bytes)
         .and_then(events::book)
         .map_err(|wrong| bad_line(file, wrong))
+}
+
+/// The changes of a text, a line a change, each read when it is asked for.
+pub fn changes(file: &Path) -> Result<impl Iterator<Item = Result<Change, Failure>>, Failure> {
+    let text: Box<dyn BufRead> = match file.to_str() {
+        Some("-") => Box::new(io::stdin().lock()),
+        _ => {
+            let file = File::open(file).map_err(|error| unreadable(file, error))?;
+            Box::new(BufReader::new(file))
+        }
+    };
+    let lines = text.split(b'\n').zip(1..);
+    Ok(lines.filter_map(move |(bytes, line)| match bytes {
+        Ok(bytes) => change(&bytes, line)
+            .map_err(|wrong| bad_line(file, wrong))
+            .transpose(),
+        Err(error) => Some(Err(unreadable(file, error))),
+    }))
+}
+
+fn change(bytes: &[u8], line: usize) -> Result<Option<Change>, Wrong> {
+    let text = events::text(bytes).map_err(|wrong| Wrong { line, ..wrong })?;
+    events::change(text, line)
+}
+
+fn unreadable(file: &Path, error: io::Error) -> Failure {
+    Failure::Input(format!("{}: {error}", name(file)))
 }
 
 /// File, line and reason.

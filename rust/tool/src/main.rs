@@ -1,7 +1,7 @@
 //! The order gate from the command line, over the linked library: a day's
 //! answers and what they mean, a customer or a security after the day, the
-//! ladder, the price that an auction would give, and the text form to bytes and
-//! back.
+//! ladder, the price that an auction would give, also while orders come and go, and the
+//! text form to bytes and back.
 
 #![forbid(unsafe_code)]
 
@@ -78,6 +78,7 @@ fn carry_out(command: Command, out: &mut impl Write) -> Result<(), Failure> {
                 false => auction::prices::write(out, &file, &book)?,
             }
         }
+        Command::Follow { file } => auction::follow::write(out, &file)?,
         Command::Encode { file } => {
             let text = input::read(&file)?;
             out.write_all(&input::events_of_text(&file, &text)?.concat())?;

@@ -12,8 +12,11 @@ use common::{error, out, sample, samples};
 fn sample_books() {
     let files = fs::read_dir(samples().join("auctions")).unwrap();
     let names = files.map(|file| file.unwrap().file_name().into_string().unwrap());
+    // A text of changes has its prices beside it.
+    let is_book = |name: &String| !samples().join(format!("auctions/{name}.prices")).exists();
     let books: Vec<String> = names
         .filter_map(|name| name.strip_suffix(".txt").map(str::to_string))
+        .filter(is_book)
         .collect();
     assert!(books.len() >= 3);
     for book in books {

@@ -102,6 +102,26 @@ fn usage() {
             r#""b": expected the end of the command"#,
         ),
         (
+            &["auction", "--follow", "a", "b"],
+            r#""b": expected the end of the command"#,
+        ),
+        (
+            &["auction", "--follow", "--volumes"],
+            r#""--volumes": no such option here, or given twice"#,
+        ),
+        (
+            &["auction", "--follow", "-", "--follow"],
+            r#""--follow": no such option here, or given twice"#,
+        ),
+        (
+            &["auction", "--follow=changes.txt"],
+            r#""--follow=changes.txt": no such option here, or given twice"#,
+        ),
+        (
+            &["day", "day.txt", "--follow"],
+            r#""--follow": no such option here, or given twice"#,
+        ),
+        (
             &["day", "day.txt", "--volumes"],
             r#""--volumes": no such option here, or given twice"#,
         ),
@@ -155,6 +175,7 @@ fn help_and_version() {
         "security FILE",
         "ladder PRICE",
         "auction [BOOK] [--volumes]",
+        "auction --follow [CHANGES]",
         "encode",
         "decode",
     ] {
