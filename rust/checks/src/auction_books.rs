@@ -26,7 +26,7 @@ enum Crossing {
 }
 
 #[derive(Clone, Copy, Debug)]
-struct Shape {
+pub struct Shape {
     length: usize,
     /// The ladder position in the middle of the prices.
     middle: u32,
@@ -51,7 +51,7 @@ const VOLUMES: [&[u32]; 5] = [
 ];
 
 impl Shape {
-    fn draw(random: &mut Random) -> Self {
+    pub fn draw(random: &mut Random) -> Self {
         let length = match random.below(128) {
             0 => 1_000 + random.place(30),
             1 => random.place(1_025),
@@ -74,7 +74,7 @@ impl Shape {
         }
     }
 
-    fn order(&self, random: &mut Random) -> Order {
+    pub fn order(&self, random: &mut Random) -> Order {
         let side = if self.one_side {
             self.middle % 2
         } else {
@@ -150,7 +150,7 @@ fn book(
 }
 
 /// Mostly where it decides: half way between two prices of the list, or beside.
-fn reference(random: &mut Random, orders: &[Order]) -> u32 {
+pub fn reference(random: &mut Random, orders: &[Order]) -> u32 {
     let beside = |random: &mut Random, price: u32| (price + random.below(3)).saturating_sub(1);
     match random.below(8) {
         0 => random.pick(&[0, 1, u32::MAX]),
@@ -177,7 +177,7 @@ fn places(random: &mut Random) -> usize {
 }
 
 /// One of its numbers is made bad.
-fn spoilt(random: &mut Random, order: Order) -> Order {
+pub fn spoilt(random: &mut Random, order: Order) -> Order {
     let mut spoilt = order;
     match random.below(3) {
         0 => spoilt.side = 2 + random.below(u32::MAX - 1),

@@ -39,7 +39,7 @@ impl Call {
     /// Everything that a reader needs to make the call again, but for what the
     /// scratch lists hold.
     pub fn describe(&self) -> String {
-        let mut out = format!(
+        let heading = format!(
             "auction, reference {}, two scratch lists of {} and {} places or one of {}, {} orders:\n",
             self.reference,
             self.buyers.len(),
@@ -47,20 +47,26 @@ impl Call {
             self.volumes.len(),
             self.orders.len()
         );
-        for equal in self.orders.chunk_by(PartialEq::eq) {
-            let Order {
-                side,
-                price,
-                volume,
-            } = equal[0];
-            out += &format!("  side {side} price {price} volume {volume}");
-            out += &match equal.len() {
-                1 => String::from("\n"),
-                times => format!(", {times} times\n"),
-            };
-        }
-        out
+        heading + &describe_orders(&self.orders)
     }
+}
+
+/// A line for each order, and one for those that repeat it.
+pub fn describe_orders(orders: &[Order]) -> String {
+    let mut out = String::new();
+    for equal in orders.chunk_by(PartialEq::eq) {
+        let Order {
+            side,
+            price,
+            volume,
+        } = equal[0];
+        out += &format!("  side {side} price {price} volume {volume}");
+        out += &match equal.len() {
+            1 => String::from("\n"),
+            times => format!(", {times} times\n"),
+        };
+    }
+    out
 }
 
 #[cfg(test)]

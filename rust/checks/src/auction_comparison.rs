@@ -9,7 +9,7 @@ use crate::comparison::{Lent, first_unlike};
 
 /// Stand on both sides of the orders that are lent: an answer by one of them
 /// would be refusal 15.
-const NO_ORDER: AuctionOrder = AuctionOrder {
+pub const NO_ORDER: AuctionOrder = AuctionOrder {
     side: 2,
     price: u32::MAX,
     volume: 0,
@@ -29,8 +29,16 @@ impl<const LISTS: usize> Left<LISTS> {
     }
 }
 
+pub fn of_library(order: &Order) -> AuctionOrder {
+    AuctionOrder {
+        side: order.side,
+        price: order.price,
+        volume: order.volume,
+    }
+}
+
 /// The library's numbers for an answer of the second implementation.
-fn numbers(answer: Answer) -> AuctionNumbers {
+pub fn numbers(answer: Answer) -> AuctionNumbers {
     let (price, volume, refusal) = match answer {
         Answer::Price { price, volume } => (price, volume, 0),
         Answer::None => (0, 0, 0),
@@ -51,11 +59,7 @@ pub fn beside<const LISTS: usize>(
     gate: fn(&[AuctionOrder], u32, [&mut [u64]; LISTS]) -> AuctionNumbers,
     second: fn(&[Order], u32, [&mut [u64]; LISTS]) -> Answer,
 ) -> Result<Left<LISTS>, String> {
-    let orders = call.orders.iter().map(|order| AuctionOrder {
-        side: order.side,
-        price: order.price,
-        volume: order.volume,
-    });
+    let orders = call.orders.iter().map(of_library);
     let around = [NO_ORDER; ORDERS_AROUND];
     let listed: Vec<AuctionOrder> = around.into_iter().chain(orders).chain(around).collect();
     let lent_orders = listed.clone();
@@ -121,7 +125,7 @@ fn unlike<const LISTS: usize>(
     })
 }
 
-fn words_of(numbers: AuctionNumbers) -> String {
+pub fn words_of(numbers: AuctionNumbers) -> String {
     match numbers {
         AuctionNumbers {
             volume: 0,

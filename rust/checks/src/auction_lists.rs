@@ -78,7 +78,7 @@ fn triples<const N: usize>(numbers: [usize; N]) -> impl Iterator<Item = [usize; 
 }
 
 /// Every sort: a wrong side, price or volume, in a limit and in an ATO.
-fn bad() -> Vec<Order> {
+pub fn bad() -> Vec<Order> {
     let mut prices = vec![
         LAST_PRICE - 1,
         LAST_PRICE + 1,

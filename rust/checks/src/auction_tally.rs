@@ -32,29 +32,44 @@ impl AuctionTally {
 
     /// What should have come and did not; where nothing ran, nothing should.
     pub fn gaps(&self, group: &str) -> Vec<String> {
-        if self.calls == 0 {
-            return Vec::new();
-        }
-        let never = self.counts().filter(|&(_, count)| count == 0);
-        never
-            .map(|(words, _)| format!("{words}: never came in {group}"))
-            .collect()
+        gaps(self.calls, self.counts(), group)
     }
+}
+
+/// What is said of each that never came, if any call was made.
+pub fn gaps(
+    calls: u64,
+    counts: impl Iterator<Item = (&'static str, u64)>,
+    group: &str,
+) -> Vec<String> {
+    let never = counts.filter(|&(_, count)| calls > 0 && count == 0);
+    never
+        .map(|(words, _)| format!("{words}: never came in {group}"))
+        .collect()
 }
 
 /// A table of both tallies, with how many calls were compared.
 pub fn auction_table(fixed: &AuctionTally, random: &AuctionTally) -> String {
-    let line = |words: &str, fixed: u64, random: u64| match fixed + random {
+    let names = ["auction", "auctions", "auction-books"];
+    let calls = [fixed.calls, random.calls];
+    table(names, fixed.counts(), random.counts(), calls)
+}
+
+/// What came in a group of fixed calls and in one of random ones.
+pub fn table(
+    [what, fixed, random]: [&str; 3],
+    of_fixed: impl Iterator<Item = (&'static str, u64)>,
+    of_random: impl Iterator<Item = (&'static str, u64)>,
+    calls: [u64; 2],
+) -> String {
+    let line = |(words, [fixed, random]): (&str, [u64; 2])| match fixed + random {
         0 => String::new(),
-        _ => format!("{words:<34}{fixed:>10}{random:>15}\n"),
+        _ => format!("{words:<34}{fixed:>17}{random:>19}\n"),
     };
-    let heading = format!(
-        "{:<34}{:>10}{:>15}\n",
-        "auction", "auctions", "auction-books"
-    );
-    let lines = fixed.counts().zip(random.counts());
-    let lines = lines.map(|((words, fixed), (_, random))| line(words, fixed, random));
-    heading + &lines.collect::<String>() + &line("all calls", fixed.calls, random.calls)
+    let pairs = of_fixed.zip(of_random);
+    let counts = pairs.map(|((words, fixed), (_, random))| (words, [fixed, random]));
+    let lines = counts.chain([("all calls", calls)]).map(line);
+    format!("{what:<34}{fixed:>17}{random:>19}\n") + &lines.collect::<String>()
 }
 
 #[cfg(test)]

@@ -26,10 +26,10 @@ pub fn run(program: &mut Program, random: &mut Random) {
 }
 
 /// Orders, the answer to them, and the volume at the place of each.
-struct Book {
-    name: &'static str,
-    orders: Vec<Order>,
-    answer: Answer,
+pub struct Book {
+    pub name: &'static str,
+    pub orders: Vec<Order>,
+    pub answer: Answer,
     volumes: Vec<u64>,
 }
 
@@ -44,14 +44,14 @@ impl Book {
     }
 
     /// "0 elsewhere": behind the last order, to the end of the lent list.
-    fn list(&self, places: usize) -> Vec<u64> {
+    pub fn list(&self, places: usize) -> Vec<u64> {
         let mut list = self.volumes.clone();
         list.resize(places, 0);
         list
     }
 }
 
-fn books() -> Vec<Book> {
+pub fn books() -> Vec<Book> {
     let of_002 = [
         0, 3_300, 3_300, 3_500, 3_500, 0, 0, 3_500, 3_500, 3_300, 1_000, 1_000, 1_000,
     ];

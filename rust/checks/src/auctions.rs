@@ -193,7 +193,7 @@ fn four_tied(program: &mut Program, random: &mut Random, position: u32) {
 }
 
 /// Around these prices, half way between any two, and at both ends.
-fn references(prices: &[u32]) -> Vec<u32> {
+pub fn references(prices: &[u32]) -> Vec<u32> {
     let pairs = prices
         .iter()
         .flat_map(|&one| prices.iter().map(move |&other| one.midpoint(other)));
@@ -211,7 +211,7 @@ fn references(prices: &[u32]) -> Vec<u32> {
 }
 
 /// The price nearest to a reference; of two the higher.
-fn nearest(reference: u32, prices: &[u32]) -> u32 {
+pub fn nearest(reference: u32, prices: &[u32]) -> u32 {
     let distance = |price: &u32| price.abs_diff(reference);
     let least = prices.iter().map(distance).min();
     let nearest = prices.iter().filter(|price| Some(distance(price)) == least);

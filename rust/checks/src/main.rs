@@ -5,6 +5,8 @@ mod arguments;
 mod auction_books;
 mod auction_call;
 mod auction_comparison;
+mod auction_current;
+mod auction_histories;
 mod auction_lists;
 mod auction_outcome;
 mod auction_places;
@@ -15,6 +17,11 @@ mod auctions;
 mod bases;
 mod comparison;
 mod counters;
+mod current_call;
+mod current_comparison;
+mod current_history;
+mod current_shapes;
+mod current_tally;
 mod customers;
 mod damage;
 mod damaged_histories;
@@ -58,7 +65,7 @@ use program::Program;
 type Group = (&'static str, fn(&mut Program));
 
 /// Cases that are the same in every run of one seed.
-const FIXED: [Group; 16] = [
+const FIXED: [Group; 17] = [
     ("edges", |program| {
         script::run(program, "edges.txt", include_str!("../cases/edges.txt"))
     }),
@@ -100,21 +107,24 @@ const FIXED: [Group; 16] = [
     ("damage", damage::run),
     ("ladder", ladder::run),
     ("auctions", auctions::run),
+    ("auction-current", auction_current::run),
 ];
 
 /// Cases that each round draws anew.
-const RANDOM: [Group; 6] = [
+const RANDOM: [Group; 7] = [
     ("histories", histories::run),
     ("customers", customers::run),
     ("runs", runs::run),
     ("damaged-histories", damaged_histories::run),
     ("random-bytes", lengths::random),
     ("auction-books", auction_books::run),
+    ("auction-histories", auction_histories::run),
 ];
 
-/// From so many rounds on, every answer must have come in the histories, and in the
-/// books every one of the auction and every sort of place on request 6's list. So
-/// many are done however slow the machine is and however long the fixed cases took.
+/// From so many rounds on, every answer must have come in the histories, in the
+/// books every one of the auction and every sort of place on request 6's list, and in
+/// the auction's histories every one of request 7 and every sort of change. So many
+/// are done however slow the machine is and however long the fixed cases took.
 const ENOUGH_ROUNDS: u64 = 20;
 
 fn main() -> ExitCode {

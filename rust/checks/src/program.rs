@@ -8,6 +8,9 @@ use crate::auction_call::Call;
 use crate::auction_outcome::{Outcome, compare};
 use crate::auction_tally::{AuctionTally, auction_table};
 use crate::comparison::{Comparison, Difference};
+use crate::current_call::CurrentCall;
+use crate::current_comparison::{self, Current};
+use crate::current_tally::{CurrentTally, current_table};
 use crate::places::place;
 use crate::random::Random;
 use crate::report;
@@ -40,6 +43,8 @@ pub struct Program {
     /// Of the fixed and of the random calls.
     auctions: AuctionTally,
     auction_books: AuctionTally,
+    auction_current: CurrentTally,
+    auction_histories: CurrentTally,
     started: Instant,
     told: Instant,
 }
@@ -61,6 +66,8 @@ impl Program {
             counts_history: false,
             auctions: AuctionTally::default(),
             auction_books: AuctionTally::default(),
+            auction_current: CurrentTally::new(),
+            auction_histories: CurrentTally::new(),
             started: Instant::now(),
             told: Instant::now(),
         }
@@ -177,6 +184,35 @@ impl Program {
         self.fail(name, &(short.describe() + &difference));
     }
 
+    /// One change of a list kept current, by the library and by the second
+    /// implementation. `None` where they part, or where the group is given up.
+    pub fn current(&mut self, name: fmt::Arguments, call: &CurrentCall) -> Option<Current> {
+        if self.is_given_up(self.group) {
+            return None;
+        }
+        let Ok(left) = current_comparison::compare(call) else {
+            self.fail_current(name, call);
+            return None;
+        };
+        let tally = match self.round {
+            None => &mut self.auction_current,
+            Some(_) => &mut self.auction_histories,
+        };
+        tally.add(call, &left);
+        self.pass();
+        Some(left)
+    }
+
+    fn fail_current(&mut self, name: fmt::Arguments, call: &CurrentCall) {
+        let places: Vec<usize> = (0..call.kept.orders.len()).collect();
+        let short = call.with_places(&shrink(&places, |places| {
+            current_comparison::compare(&call.with_places(places)).is_err()
+        }));
+        let difference = current_comparison::compare(&short).err();
+        let difference = difference.unwrap_or("a second time they do not part".into());
+        self.fail(name, &(short.describe() + &difference));
+    }
+
     /// Anything else that must hold.
     pub fn holds(
         &mut self,
@@ -273,12 +309,16 @@ impl Program {
         print!("{}", self.shares.table());
         print!("{}", tally::table(&self.all, &self.histories));
         print!("{}", auction_table(&self.auctions, &self.auction_books));
+        let [fixed, random] = [&self.auction_current, &self.auction_histories];
+        print!("{}", current_table(fixed, random));
         if self.failed > 0 {
             return;
         }
         let mut gaps = self.auctions.gaps("auctions");
+        gaps.extend(self.auction_current.gaps("auction-current"));
         if enough_rounds {
             gaps.extend(self.auction_books.gaps("auction-books"));
+            gaps.extend(self.auction_histories.gaps("auction-histories"));
         }
         if is_whole {
             gaps.extend(self.all.gaps());
