@@ -1,6 +1,6 @@
 //! What the program is asked to do.
 
-use crate::auction::{Call, NAME};
+use crate::auction::{Call, NAME, current};
 use crate::implementation::Implementation;
 use crate::mixture::Mixture;
 use crate::size::Size;
@@ -13,9 +13,9 @@ usage: bench [--repeats N] [--at CUSTOMERS,SECURITIES,ROWS] [--only NAME] [MIXTU
   --only NAME    time only gate, second or tuned, and compare nothing, so that it
                  handles each list N times and no more
   MIXTURE        order-heavy, pre-open, cancel-heavy, cancel-match, market-heavy
-                 or session, or auction or volumes (with two scratch lists and
-                 with one), which have neither a state nor a tuned implementation;
-                 without one, all of them";
+                 or session, or auction, volumes (with two scratch lists and with
+                 one) or current (an order added or taken out), which have neither
+                 a state nor a tuned implementation; without one, all of them";
 
 /// Odd, so that there is a median.
 const REPEATS: usize = 51;
@@ -29,6 +29,7 @@ pub struct Arguments {
     at: Option<Size>,
     mixtures: Vec<Mixture>,
     calls: Vec<Call>,
+    is_current_asked: bool,
 }
 
 impl Arguments {
@@ -39,6 +40,7 @@ impl Arguments {
             at: None,
             mixtures: Vec::new(),
             calls: Vec::new(),
+            is_current_asked: false,
         };
         let mut only = None;
         let mut words = words.into_iter();
@@ -50,6 +52,7 @@ impl Arguments {
                 "--only" if only.is_some() => return Err(String::from("--only is given twice")),
                 "--only" => only = Some(implementation(&value()?)?),
                 _ if word.starts_with('-') => return Err(format!("unknown argument {word:?}")),
+                current::NAME => arguments.is_current_asked = true,
                 _ => match Call::named(&word) {
                     Some(call) => arguments.calls.push(call),
                     None => arguments.mixtures.push(mixture(&word)?),
@@ -75,11 +78,12 @@ impl Arguments {
     }
 
     fn check_auction(&self) -> Result<(), String> {
-        let Some(call) = self.calls.first() else {
+        let calls = self.calls.iter().map(|call| call.name());
+        let current = self.is_current_asked.then_some(current::NAME);
+        let Some(name) = calls.chain(current).next() else {
             return Ok(());
         };
         if self.at.is_some() {
-            let name = call.name();
             return Err(format!("{name} has no state that --at could be for"));
         }
         match self.implementations[..] {
@@ -91,7 +95,7 @@ impl Arguments {
     }
 
     fn is_everything_asked(&self) -> bool {
-        self.mixtures.is_empty() && self.calls.is_empty()
+        self.mixtures.is_empty() && self.calls.is_empty() && !self.is_current_asked
     }
 
     /// The mixtures asked for, in the order of the table.
@@ -116,6 +120,19 @@ impl Arguments {
         if self.calls().is_empty() {
             return Vec::new();
         }
+        self.with_auction()
+    }
+
+    /// Those of which the list kept current is asked for, the gate first.
+    pub fn current(&self) -> Vec<Implementation> {
+        let is_part_of_all = self.is_everything_asked() && self.at.is_none();
+        if !self.is_current_asked && !is_part_of_all {
+            return Vec::new();
+        }
+        self.with_auction()
+    }
+
+    fn with_auction(&self) -> Vec<Implementation> {
         let mut implementations = self.implementations.clone();
         implementations.retain(|implementation| Implementation::AUCTION.contains(implementation));
         implementations
@@ -165,6 +182,19 @@ mod tests {
         assert_eq!(arguments.sizes(Mixture::Orders), Mixture::Orders.sizes());
         assert_eq!(arguments.auction(), Implementation::AUCTION);
         assert_eq!(arguments.calls(), Call::ALL);
+        assert_eq!(arguments.current(), Implementation::AUCTION);
+    }
+
+    #[test]
+    fn only_the_list_kept_current() {
+        let arguments = parse("current --repeats 3").unwrap();
+        assert_eq!(arguments.mixtures().count(), 0);
+        assert_eq!(arguments.auction(), []);
+        assert_eq!(arguments.current(), Implementation::AUCTION);
+        let arguments = parse("current volumes --only second").unwrap();
+        assert_eq!(arguments.auction(), [Implementation::Second]);
+        assert_eq!(arguments.calls(), [Call::Volumes]);
+        assert_eq!(arguments.current(), [Implementation::Second]);
     }
 
     #[test]
@@ -177,12 +207,15 @@ mod tests {
         assert!(arguments.mixtures().eq([Mixture::Sessions]));
         assert_eq!(arguments.auction(), [Implementation::Second]);
         assert_eq!(arguments.calls(), [Call::Volumes]);
+        assert_eq!(arguments.current(), []);
     }
 
     #[test]
     fn no_auction() {
         for line in ["session", "--at 16,64,31", "--only tuned"] {
-            assert_eq!(parse(line).unwrap().auction(), [], "{line}");
+            let arguments = parse(line).unwrap();
+            assert_eq!(arguments.auction(), [], "{line}");
+            assert_eq!(arguments.current(), [], "{line}");
         }
     }
 
@@ -228,6 +261,7 @@ mod tests {
         for call in Call::ALL {
             assert!(USAGE.contains(call.name()), "{call:?}");
         }
+        assert!(USAGE.contains(current::NAME));
         for implementation in Implementation::ALL {
             assert!(USAGE.contains(implementation.name()), "{implementation:?}");
         }
@@ -268,6 +302,11 @@ mod tests {
                 "volumes --at 16,64,10",
                 "volumes has no state that --at could be for",
             ),
+            (
+                "current --at 16,64,10",
+                "current has no state that --at could be for",
+            ),
+            ("current --only tuned", "tuned has no auction"),
             ("auction --only tuned", "tuned has no auction"),
             ("volumes --only tuned", "tuned has no auction"),
         ];

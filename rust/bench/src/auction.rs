@@ -2,6 +2,7 @@
 
 mod book;
 mod call;
+pub mod current;
 
 use std::hint::black_box;
 use std::time::{Duration, Instant};
@@ -47,7 +48,7 @@ impl Books {
         Books {
             prices,
             length,
-            reference: prices.nth(prices.count(length) / 2),
+            reference: prices.middle(length),
             books: books.collect(),
         }
     }
@@ -110,11 +111,11 @@ impl Books {
         let timed: Vec<_> = calls.iter().flat_map(of).collect();
         let mut lists = vec![scratch(); timed.len()];
         let medians = medians(timed.len(), repeats, |place| {
-            self.time(timed[place], &mut lists[place])
+            [self.time(timed[place], &mut lists[place])]
         });
         let times = medians.into_iter();
         let times: Vec<f64> = times
-            .map(|time| time.as_nanos() as f64 / self.len() as f64)
+            .map(|[time]| time.as_nanos() as f64 / self.len() as f64)
             .collect();
         let lines = times.chunks(implementations.len());
         lines.map(<[f64]>::to_vec).collect()

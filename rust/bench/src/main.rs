@@ -17,6 +17,7 @@ use std::process::ExitCode;
 
 use arguments::{Arguments, USAGE};
 use auction::Books;
+use auction::current::{Current, Step};
 use compare::compare;
 use implementation::Implementation;
 use measure::measure;
@@ -60,6 +61,10 @@ fn print(arguments: &Arguments) -> Result<(), String> {
     let implementations = arguments.auction();
     if !implementations.is_empty() {
         print_auction(arguments, implementations)?;
+    }
+    let implementations = arguments.current();
+    if !implementations.is_empty() {
+        print_current(arguments, implementations)?;
     }
     Ok(())
 }
@@ -128,6 +133,32 @@ fn print_auction(
     Ok(())
 }
 
+fn print_current(
+    arguments: &Arguments,
+    implementations: Vec<Implementation>,
+) -> Result<(), String> {
+    let table = Table { implementations };
+    println!("\n{}", table.current_heading());
+    let mut lines = Vec::new();
+    for current in Current::all() {
+        current
+            .compare(&table.implementations)
+            .map_err(|difference| {
+                let (orders, prices, places) = (current.orders, current.prices, current.places);
+                format!("{orders} orders in {places} places, {prices} prices: {difference}")
+            })?;
+        let times = current.measure(&table.implementations, arguments.repeats);
+        for step in Step::ALL {
+            println!("{}", table.current_line(step, &current, &times));
+        }
+        lines.push(times);
+    }
+    for step in Step::ALL {
+        println!("{}", table.current_mean(step, &lines));
+    }
+    Ok(())
+}
+
 #[cfg(test)]
 mod tests {
     use super::*;
@@ -142,5 +173,7 @@ mod tests {
             let name = format!("\n  {} ", call.name());
             assert!(MEASURED.contains(&name), "{call:?}");
         }
+        let name = format!("\n  {} ", auction::current::NAME);
+        assert!(MEASURED.contains(&name));
     }
 }

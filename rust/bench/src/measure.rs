@@ -1,5 +1,6 @@
 //! Nanoseconds an event, for each implementation over one list.
 
+use std::array;
 use std::time::Duration;
 
 use crate::implementation::Implementation;
@@ -9,22 +10,22 @@ pub fn measure(list: &List, implementations: &[Implementation], repeats: usize) 
     let count = implementations.len();
     let mut words = vec![list.start.clone(); count];
     let medians = medians(count, repeats, |place| {
-        implementations[place].time(list, &mut words[place])
+        [implementations[place].time(list, &mut words[place])]
     });
     let times = medians.into_iter();
     times
-        .map(|time| time.as_nanos() as f64 / list.len() as f64)
+        .map(|[time]| time.as_nanos() as f64 / list.len() as f64)
         .collect()
 }
 
 /// The implementations take turns, so that what else the machine does hits all
 /// of them; who is first changes, so that nothing regular hits one of them
-/// alone.
-pub fn medians(
+/// alone. Each may have several times, of which each has its own median.
+pub fn medians<const TIMES: usize>(
     count: usize,
     repeats: usize,
-    mut time: impl FnMut(usize) -> Duration,
-) -> Vec<Duration> {
+    mut time: impl FnMut(usize) -> [Duration; TIMES],
+) -> Vec<[Duration; TIMES]> {
     let mut times = vec![Vec::with_capacity(repeats); count];
     for repeat in 0..repeats {
         for turn in 0..count {
@@ -32,7 +33,13 @@ pub fn medians(
             times[place].push(time(place));
         }
     }
-    times.into_iter().map(median).collect()
+    let nth = |times: &[[Duration; TIMES]], place: usize| {
+        median(times.iter().map(|times| times[place]).collect())
+    };
+    times
+        .iter()
+        .map(|times| array::from_fn(|place| nth(times, place)))
+        .collect()
 }
 
 /// Of an even number the longer of the two in the middle.

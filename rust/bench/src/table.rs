@@ -1,5 +1,6 @@
 //! The lines of the table. Each is printed as soon as it is measured.
 
+use crate::auction::current::{self, Current, Step};
 use crate::auction::{Books, Call, NAME};
 use crate::implementation::Implementation;
 use crate::mixture::Mixture;
@@ -22,6 +23,19 @@ impl Table {
     pub fn auction_heading(&self) -> String {
         let line = format!("{NAME:<13}{:>10}{:>11}{:>12}", "prices", "orders", "calls");
         line + &self.names()
+    }
+
+    /// The last columns are how many times request 6's price of the same list a call
+    /// takes, by the same implementation.
+    pub fn current_heading(&self) -> String {
+        let name = current::NAME;
+        let mut line = format!("{name:<13}{:>10}{:>11}{:>12}", "prices", "orders", "places");
+        line += &self.names();
+        for implementation in &self.implementations {
+            let name = format!("{}/{}", implementation.name(), Step::Volumes.name());
+            line += &format!("{name:>16}");
+        }
+        line
     }
 
     /// Of the columns with the times and how they compare.
@@ -52,14 +66,43 @@ impl Table {
         format!("{name:<13}{prices:>10}{orders:>11}{calls:>12}") + &columns(times)
     }
 
+    pub fn current_line(&self, step: Step, current: &Current, times: &[Vec<f64>]) -> String {
+        let (name, prices) = (step.name(), current.prices);
+        let (orders, places) = (current.orders, current.places);
+        let line = format!("{name:<13}{prices:>10}{orders:>11}{places:>12}");
+        let times = [step, Step::Volumes].map(|step| &times[step as usize][..]);
+        line + &columns(times[0]) + &beside(times)
+    }
+
+    /// Over all lines of a step, beside all lines of request 6's price.
+    pub fn current_mean(&self, step: Step, lines: &[Vec<Vec<f64>>]) -> String {
+        let of = |step: Step| {
+            let lines = lines.iter().map(|times| times[step as usize].clone());
+            lines.collect::<Vec<_>>()
+        };
+        let times = [step, Step::Volumes].map(|step| self.means(&of(step)));
+        self.mean(step.name(), &of(step)) + &beside(times.each_ref().map(|times| &times[..]))
+    }
+
     /// Over all lines of a mixture or of a call of the auction.
     pub fn mean(&self, name: &str, lines: &[Vec<f64>]) -> String {
-        let means: Vec<f64> = (0..self.implementations.len())
-            .map(|place| geometric_mean(lines.iter().map(|times| times[place])))
-            .collect();
         let what = format!("geometric mean of {} lines", lines.len());
-        format!("{name:<13}{what:>33}") + &columns(&means)
+        format!("{name:<13}{what:>33}") + &columns(&self.means(lines))
     }
+
+    fn means(&self, lines: &[Vec<f64>]) -> Vec<f64> {
+        (0..self.implementations.len())
+            .map(|place| geometric_mean(lines.iter().map(|times| times[place])))
+            .collect()
+    }
+}
+
+/// How many times those of request 6's price the times are.
+fn beside([times, volumes]: [&[f64]; 2]) -> String {
+    let pairs = times.iter().zip(volumes);
+    pairs
+        .map(|(time, volumes)| format!("{:>16.2}", time / volumes))
+        .collect()
 }
 
 /// The times, then how many times the others' the first is.
@@ -140,6 +183,34 @@ mod tests {
                 "auction          shared       1024           8      100.0      200.0        0.50",
                 "volumes       different         16         512      400.0      200.0        2.00",
                 "volumes              geometric mean of 2 lines      200.0      200.0        1.00",
+            ]
+        );
+    }
+
+    #[test]
+    fn beside_the_price_of_the_same_list() {
+        let table = Table {
+            implementations: Implementation::AUCTION.to_vec(),
+        };
+        let all = Current::all();
+        let lines = [
+            vec![vec![110.0, 400.0], vec![90.0, 300.0], vec![100.0, 200.0]],
+            vec![vec![440.0, 400.0], vec![90.0, 300.0], vec![400.0, 800.0]],
+        ];
+        assert_eq!(
+            [
+                table.current_heading(),
+                table.current_line(Step::Add, &all[1], &lines[0]),
+                table.current_line(Step::Take, &all[1], &lines[0]),
+                table.current_line(Step::Volumes, &all[9], &lines[1]),
+                table.current_mean(Step::Add, &lines),
+            ],
+            [
+                "current          prices     orders      places    gate ns  second ns gate/second    gate/volumes  second/volumes",
+                "add              shared         16        1024      110.0      400.0        0.28            1.10            2.00",
+                "take             shared         16        1024       90.0      300.0        0.30            0.90            1.50",
+                "volumes       different       1024        1024      400.0      800.0        0.50            1.00            1.00",
+                "add                  geometric mean of 2 lines      220.0      400.0        0.55            1.10            1.00",
             ]
         );
     }

@@ -33,6 +33,8 @@ fn bad_arguments_fail_with_the_usage() {
         "auction --at 16,64,10",
         "auction --only tuned",
         "volumes --at 16,64,10",
+        "current --at 16,64,10",
+        "current --only tuned",
     ] {
         let output = bench(line);
         assert_eq!(output.status.code(), Some(1), "{line}");
@@ -84,15 +86,14 @@ fn one_implementation() {
     }
 }
 
-/// The columns of the auction's table, which stands alone.
-fn auction_columns(line: &str) -> Vec<Vec<String>> {
+/// The columns of the auction's table, or of another of this name, which stands alone.
+fn columns_below(name: &str, line: &str) -> Vec<Vec<String>> {
     let output = bench(line);
     assert!(output.status.success());
     let text = String::from_utf8(output.stdout).unwrap();
     assert!(!text.contains("\nmixture "), "{text}");
-    let table = text
-        .lines()
-        .skip_while(|line| !line.starts_with("auction "));
+    let heading = format!("{name} ");
+    let table = text.lines().skip_while(|line| !line.starts_with(&heading));
     table
         .map(|line| line.split_whitespace().map(String::from).collect())
         .collect()
@@ -101,7 +102,7 @@ fn auction_columns(line: &str) -> Vec<Vec<String>> {
 #[test]
 fn only_the_auction() {
     for name in ["auction", "volumes"] {
-        let columns = auction_columns(&format!("{name} --repeats 1"));
+        let columns = columns_below("auction", &format!("{name} --repeats 1"));
         // Two sorts of prices at three lengths, and the mean.
         assert_eq!(columns.len(), 1 + 6 + 1);
         assert_eq!(columns[1][..4], [name, "shared", "16", "512"]);
@@ -114,7 +115,7 @@ fn only_the_auction() {
 
 #[test]
 fn both_calls_of_the_auction() {
-    let columns = auction_columns("volumes auction --repeats 1 --only gate");
+    let columns = columns_below("auction", "volumes auction --repeats 1 --only gate");
     assert_eq!(columns.len(), 1 + 12 + 2);
     for pair in columns[1..].chunks(2) {
         let [two_lists, one_list] = pair else {
@@ -125,4 +126,20 @@ fn both_calls_of_the_auction() {
         let time = two_lists.len() - 1;
         assert_eq!(two_lists[1..time], one_list[1..time]);
     }
+}
+
+#[test]
+fn a_list_kept_current() {
+    let columns = columns_below("current", "current --repeats 1");
+    // Add, take and the price at two sorts of prices and five sizes, and the means.
+    assert_eq!(columns.len(), 1 + 3 * 10 + 3);
+    assert_eq!(columns[1][..4], ["add", "shared", "16", "16"]);
+    assert_eq!(columns[5][..4], ["take", "shared", "16", "1024"]);
+    assert_eq!(columns[30][..4], ["volumes", "different", "1024", "1024"]);
+    assert_eq!(columns[33][0], "volumes");
+    // Two times, their ratio, and how many times the price each takes.
+    for line in &columns[1..31] {
+        assert_eq!(line.len(), 9);
+    }
+    assert_eq!(columns[30][7..], ["1.00", "1.00"]);
 }

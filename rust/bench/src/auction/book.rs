@@ -24,14 +24,19 @@ impl Prices {
         }
     }
 
-    pub fn count(self, length: usize) -> u32 {
+    fn count(self, length: usize) -> u32 {
         match self {
             Prices::Shared => 200,
             Prices::Different => length as u32,
         }
     }
 
-    pub fn nth(self, place: u32) -> u32 {
+    /// The price in the middle, which is a reference.
+    pub fn middle(self, length: usize) -> u32 {
+        self.nth(self.count(length) / 2)
+    }
+
+    fn nth(self, place: u32) -> u32 {
         ladder::price(self.first() + place).expect("the position is on the ladder")
     }
 
@@ -43,11 +48,7 @@ impl Prices {
                 Prices::Shared => self.nth(random.below(self.count(length))),
                 Prices::Different => self.nth(place),
             };
-            orders.push(Order {
-                side: random.below(2),
-                price,
-                volume: 100 * (1 + random.below(100)),
-            });
+            orders.push(random.order(price));
         }
         // Prices that rise through the list would be easy to predict.
         for end in (1..length).rev() {
@@ -72,13 +73,16 @@ pub struct Book {
     pub second: Vec<Order>,
 }
 
+pub fn of_gate(order: &Order) -> AuctionOrder {
+    AuctionOrder {
+        side: order.side,
+        price: order.price,
+        volume: order.volume,
+    }
+}
+
 impl Book {
-    fn new(orders: Vec<Order>) -> Self {
-        let of_gate = |order: &Order| AuctionOrder {
-            side: order.side,
-            price: order.price,
-            volume: order.volume,
-        };
+    pub fn new(orders: Vec<Order>) -> Self {
         Book {
             gate: orders.iter().map(of_gate).collect(),
             second: orders,
@@ -90,13 +94,22 @@ impl Book {
 pub struct Random(pub u64);
 
 impl Random {
-    fn below(&mut self, bound: u32) -> u32 {
+    pub fn below(&mut self, bound: u32) -> u32 {
         self.0 = self.0.wrapping_add(0x9e37_79b9_7f4a_7c15);
         let mut mixed = self.0;
         mixed = (mixed ^ (mixed >> 30)).wrapping_mul(0xbf58_476d_1ce4_e5b9);
         mixed = (mixed ^ (mixed >> 27)).wrapping_mul(0x94d0_49bb_1331_11eb);
         mixed ^= mixed >> 31;
         (mixed % u64::from(bound)) as u32
+    }
+
+    /// At this price, on either side.
+    pub fn order(&mut self, price: u32) -> Order {
+        Order {
+            side: self.below(2),
+            price,
+            volume: 100 * (1 + self.below(100)),
+        }
     }
 }
 
