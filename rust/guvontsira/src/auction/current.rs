@@ -69,8 +69,11 @@ impl CurrentAuction {
     /// # Panics
     /// As that.
     pub fn add(&mut self, order: AuctionOrder, reference: u32) -> AuctionAnswer {
+        // Every place past the count is zero already: those that are not needed are not
+        // lent, and so not cleared again.
+        let places = MAX_AUCTION_ORDERS.min(self.count + 1);
         let numbers = library::auction_add(
-            &mut self.orders,
+            &mut self.orders[..places],
             &mut self.count,
             order.bare(),
             reference,
@@ -88,8 +91,10 @@ impl CurrentAuction {
     /// # Panics
     /// As that.
     pub fn take(&mut self, place: usize, reference: u32) -> AuctionAnswer {
+        // As in `add`.
+        let places = self.count;
         let numbers = library::auction_take(
-            &mut self.orders,
+            &mut self.orders[..places],
             &mut self.count,
             place,
             reference,
