@@ -6,7 +6,7 @@ mod common;
 use guvontsira::{Auction, AuctionAnswer, AuctionOrder, AuctionVolumes, MAX_AUCTION_ORDERS, Side};
 use guvontsira::{MAX_POSITION, MAX_PRICE, MAX_VOLUME, library, price};
 
-use common::{at_auction, bare, book, given, limit, numbers};
+use common::{at_auction, bad_orders, bare, book, given, limit, numbers};
 
 /// With two scratch lists and with one.
 #[derive(Default)]
@@ -74,19 +74,8 @@ fn none() {
 #[test]
 fn bad_orders_in_any_place() {
     let good = limit(Side::Buy, 50_00, 100);
-    let bad = [
-        limit(Side::Buy, 50_01, 100),
-        limit(Side::Sell, MAX_PRICE + 2_00, 100),
-        limit(Side::Sell, u32::MAX, 100),
-        // No limit, and no ATO either.
-        limit(Side::Sell, 0, 100),
-        limit(Side::Sell, 50_00, 0),
-        limit(Side::Buy, 50_00, MAX_VOLUME + 1),
-        at_auction(Side::Buy, 0),
-        at_auction(Side::Sell, u32::MAX),
-    ];
     let mut both = Both::default();
-    for bad in bad {
+    for bad in bad_orders() {
         for place in 0..3 {
             let mut orders = [good; 3];
             orders[place] = bad;

@@ -6,7 +6,7 @@ mod common;
 use guvontsira::{AuctionAnswer, AuctionOrder, AuctionVolumes, CurrentAuction, Side};
 use guvontsira::{MAX_AUCTION_ORDERS, MAX_PRICE, MAX_VOLUME, library, price};
 
-use common::{at_auction, bare, book, given, limit, numbers};
+use common::{at_auction, bad_orders, bare, book, given, limit, numbers};
 
 /// An auction that is kept current, and beside it the orders that should be held.
 #[derive(Default)]
@@ -142,19 +142,8 @@ fn each_call_has_its_reference() {
 #[test]
 fn a_bad_order() {
     let mut book = Followed::default();
-    let bad = [
-        limit(Side::Buy, 50_01, 100),
-        limit(Side::Sell, MAX_PRICE + 2_00, 100),
-        limit(Side::Sell, u32::MAX, 100),
-        // No limit, and no ATO either.
-        limit(Side::Sell, 0, 100),
-        limit(Side::Sell, 50_00, 0),
-        limit(Side::Buy, 50_00, MAX_VOLUME + 1),
-        at_auction(Side::Buy, 0),
-        at_auction(Side::Sell, u32::MAX),
-    ];
     for held in 0..3 {
-        for bad in bad {
+        for bad in bad_orders() {
             assert_eq!(book.add(bad, 0), AuctionAnswer::Refused(15), "{bad:?}");
         }
         assert_eq!(book.current.len(), held);
