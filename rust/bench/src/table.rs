@@ -25,14 +25,14 @@ impl Table {
         line + &self.names()
     }
 
-    /// The last columns are how many times request 6's price of the same list a call
-    /// takes, by the same implementation.
+    /// The last columns are how many times request 6's price of the list that it leaves a
+    /// call takes, by the same implementation.
     pub fn current_heading(&self) -> String {
         let name = current::NAME;
         let mut line = format!("{name:<13}{:>10}{:>11}{:>12}", "prices", "orders", "places");
         line += &self.names();
         for implementation in &self.implementations {
-            let name = format!("{}/{}", implementation.name(), Step::Volumes.name());
+            let name = format!("{}/volumes", implementation.name());
             line += &format!("{name:>16}");
         }
         line
@@ -70,7 +70,7 @@ impl Table {
         let (name, prices) = (step.name(), current.prices);
         let (orders, places) = (current.orders, current.places);
         let line = format!("{name:<13}{prices:>10}{orders:>11}{places:>12}");
-        let times = [step, Step::Volumes].map(|step| &times[step as usize][..]);
+        let times = [step, step.volumes()].map(|step| &times[step as usize][..]);
         line + &columns(times[0]) + &beside(times)
     }
 
@@ -80,7 +80,7 @@ impl Table {
             let lines = lines.iter().map(|times| times[step as usize].clone());
             lines.collect::<Vec<_>>()
         };
-        let times = [step, Step::Volumes].map(|step| self.means(&of(step)));
+        let times = [step, step.volumes()].map(|step| self.means(&of(step)));
         self.mean(step.name(), &of(step)) + &beside(times.each_ref().map(|times| &times[..]))
     }
 
@@ -194,22 +194,25 @@ mod tests {
         };
         let all = Current::all();
         let lines = [
-            vec![vec![110.0, 400.0], vec![90.0, 300.0], vec![100.0, 200.0]],
-            vec![vec![440.0, 400.0], vec![90.0, 300.0], vec![400.0, 800.0]],
-        ];
+            [[110.0, 400.0], [100.0, 200.0], [90.0, 300.0], [60.0, 100.0]].map(Vec::from),
+            [[440.0, 400.0], [400.0, 800.0], [90.0, 300.0], [45.0, 200.0]].map(Vec::from),
+        ]
+        .map(Vec::from);
         assert_eq!(
             [
                 table.current_heading(),
                 table.current_line(Step::Add, &all[1], &lines[0]),
                 table.current_line(Step::Take, &all[1], &lines[0]),
-                table.current_line(Step::Volumes, &all[9], &lines[1]),
+                table.current_line(Step::VolumesAdded, &all[9], &lines[1]),
+                table.current_line(Step::VolumesTaken, &all[9], &lines[1]),
                 table.current_mean(Step::Add, &lines),
             ],
             [
                 "current          prices     orders      places    gate ns  second ns gate/second    gate/volumes  second/volumes",
                 "add              shared         16        1024      110.0      400.0        0.28            1.10            2.00",
-                "take             shared         16        1024       90.0      300.0        0.30            0.90            1.50",
-                "volumes       different       1024        1024      400.0      800.0        0.50            1.00            1.00",
+                "take             shared         16        1024       90.0      300.0        0.30            1.50            3.00",
+                "volumes-add   different       1024        1024      400.0      800.0        0.50            1.00            1.00",
+                "volumes-take  different       1024        1024       45.0      200.0        0.23            1.00            1.00",
                 "add                  geometric mean of 2 lines      220.0      400.0        0.55            1.10            1.00",
             ]
         );

@@ -131,15 +131,24 @@ fn both_calls_of_the_auction() {
 #[test]
 fn a_list_kept_current() {
     let columns = columns_below("current", "current --repeats 1");
-    // Add, take and the price at two sorts of prices and five sizes, and the means.
-    assert_eq!(columns.len(), 1 + 3 * 10 + 3);
+    // Add and take, each with the price, at two sorts of prices and five sizes, and the means.
+    assert_eq!(columns.len(), 1 + 4 * 10 + 4);
     assert_eq!(columns[1][..4], ["add", "shared", "16", "16"]);
-    assert_eq!(columns[5][..4], ["take", "shared", "16", "1024"]);
-    assert_eq!(columns[30][..4], ["volumes", "different", "1024", "1024"]);
-    assert_eq!(columns[33][0], "volumes");
+    assert_eq!(columns[7][..4], ["take", "shared", "16", "1024"]);
+    assert_eq!(
+        columns[38][..4],
+        ["volumes-add", "different", "1024", "1024"]
+    );
+    assert_eq!(
+        columns[40][..4],
+        ["volumes-take", "different", "1024", "1024"]
+    );
+    assert_eq!(columns[44][0], "volumes-take");
     // Two times, their ratio, and how many times the price each takes.
-    for line in &columns[1..31] {
+    for line in &columns[1..41] {
         assert_eq!(line.len(), 9);
     }
-    assert_eq!(columns[30][7..], ["1.00", "1.00"]);
+    for price in [38, 40] {
+        assert_eq!(columns[price][7..], ["1.00", "1.00"]);
+    }
 }

@@ -6,10 +6,10 @@
 //! the one that went, and another side and volume, so that the book changes and its
 //! prices stay shared or different.
 //!
-//! Beside them stands request 6's price of the list between the two. It is timed in a
-//! second pass, where the list is changed without the library. That pass also works
-//! out, untimed, the price of the list after the take: each call then follows the same
-//! lists in the same order, and what the processor learned of them is the same.
+//! Beside each stands request 6's price of the list that it leaves: after an add of as
+//! many orders as the line says, after a take of one fewer. Both are timed in a second
+//! pass, where the list is changed without the library: each call follows the same lists
+//! in the same order, and what the processor learned of them is the same.
 
 use std::hint::black_box;
 use std::time::{Duration, Instant};
@@ -40,19 +40,35 @@ const SIZES: [[usize; 2]; 5] = [
 #[derive(Clone, Copy, Debug, PartialEq, Eq)]
 pub enum Step {
     Add,
+    /// Request 6's call on the list that an add leaves.
+    VolumesAdded,
     Take,
-    /// Request 6's call on the list that an add leaves and a take finds.
-    Volumes,
+    /// Request 6's call on the list that a take leaves.
+    VolumesTaken,
 }
 
 impl Step {
-    pub const ALL: [Step; 3] = [Step::Add, Step::Take, Step::Volumes];
+    pub const ALL: [Step; 4] = [
+        Step::Add,
+        Step::VolumesAdded,
+        Step::Take,
+        Step::VolumesTaken,
+    ];
 
     pub fn name(self) -> &'static str {
         match self {
             Step::Add => "add",
+            Step::VolumesAdded => "volumes-add",
             Step::Take => "take",
-            Step::Volumes => "volumes",
+            Step::VolumesTaken => "volumes-take",
+        }
+    }
+
+    /// Request 6's call on the list that this step leaves.
+    pub fn volumes(self) -> Step {
+        match self {
+            Step::Add | Step::VolumesAdded => Step::VolumesAdded,
+            Step::Take | Step::VolumesTaken => Step::VolumesTaken,
         }
     }
 
@@ -90,14 +106,18 @@ impl Step {
                 let volumes = &mut lent.volumes;
                 Given::Second(current::take(orders, count, turn.place, reference, volumes))
             },
-            (Step::Volumes, Implementation::Gate) => |lent, _, reference| {
-                let held = &lent.gate[..lent.count];
-                Given::Gate(library::auction_volumes(held, reference, &mut lent.volumes))
-            },
-            (Step::Volumes, Implementation::Second) => |lent, _, reference| {
-                let held = &lent.second[..lent.count];
-                Given::Second(auction_volumes(held, reference, &mut lent.volumes))
-            },
+            (Step::VolumesAdded | Step::VolumesTaken, Implementation::Gate) => {
+                |lent, _, reference| {
+                    let held = &lent.gate[..lent.count];
+                    Given::Gate(library::auction_volumes(held, reference, &mut lent.volumes))
+                }
+            }
+            (Step::VolumesAdded | Step::VolumesTaken, Implementation::Second) => {
+                |lent, _, reference| {
+                    let held = &lent.second[..lent.count];
+                    Given::Second(auction_volumes(held, reference, &mut lent.volumes))
+                }
+            }
             (_, Implementation::Tuned) => unreachable!("the tuned one has no auction"),
         }
     }
@@ -240,7 +260,7 @@ impl Current {
         for &other in &implementations[1..] {
             let mut lents = [self.start.clone(), self.start.clone()];
             for (number, turn) in self.turns.iter().enumerate() {
-                for step in [Step::Add, Step::Volumes, Step::Take] {
+                for step in Step::ALL {
                     let [ours, theirs] = &mut lents;
                     let answers = [
                         answer(step, gate, ours, turn),
@@ -271,14 +291,14 @@ impl Current {
 
     /// How long each step takes over all turns.
     fn time(&self, which: Implementation, lent: &mut Lent) -> [Duration; Step::ALL.len()] {
-        let [add, take, volumes] = Step::ALL.map(|step| step.of(which));
+        let [add, volumes, take, _] = Step::ALL.map(|step| step.of(which));
         let timed = |call: fn(&mut Lent, &Turn, u32) -> Given, lent: &mut Lent, turn: &Turn| {
             let begin = Instant::now();
             black_box(call(lent, black_box(turn), self.reference));
             begin.elapsed()
         };
         let mut times = [Duration::ZERO; Step::ALL.len()];
-        let [added, taken, priced] = &mut times;
+        let [added, priced_added, taken, priced_taken] = &mut times;
         lent.copy(&self.start);
         for turn in &self.turns {
             *added += timed(add, lent, turn);
@@ -287,9 +307,9 @@ impl Current {
         lent.copy(&self.start);
         for turn in &self.turns {
             lent.push(turn.order);
-            *priced += timed(volumes, lent, turn);
+            *priced_added += timed(volumes, lent, turn);
             lent.remove(turn.place);
-            timed(volumes, lent, turn);
+            *priced_taken += timed(volumes, lent, turn);
         }
         times
     }
@@ -352,7 +372,7 @@ mod tests {
         }
     }
 
-    /// The lists that are priced are those that an add leaves.
+    /// The lists that are priced are those that an add and a take leave.
     #[test]
     fn changed_without_the_library() {
         for line in Current::all() {
