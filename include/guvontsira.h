@@ -477,7 +477,7 @@ guvontsira_auction_volumes(const struct guvontsira_auction_order *orders, size_t
  * has fewer than GUVONTSIRA_MAX_AUCTION_ORDERS places; then with 15, if the order to be
  * added or one held is bad, also the one to be taken out; last, by
  * guvontsira_auction_take, with 16 if the place is at or beyond the count. After a
- * refusal the list, the count and the volumes are untouched.
+ * refusal the list, the count and the volumes are as they were.
  *
  * Owed, as by every caller: the list, the count and the scratch list overlap nothing
  * else that is handed in.

@@ -1,6 +1,6 @@
 -- What each way out of `add` and `take` leaves is what the contract says. No memory.
 --     Promised c reference l r l′      of the call c on what was lent, l: the answer r, and what is left, l′
---     refused-alike    where the count fits and the place is below it, request 6 refuses the orders that are then held as request 7 refuses the call
+--     refused-alike    where the count fits, the place is below it and no order is bad but among those then held, request 6 refuses these as request 7 refuses the call
 --     left-refused     a refusal that is met leaves what was lent.        kept-unfit, kept-bad     so with 14 and with 15, before the price is worked out
 --     worked-refused, worked-done      the price is worked out: what is left where it refuses, once the list is put back, and where it does not.        fit-lists    request 6 finds both lists long enough
 -- `Added` and `Taken` have the list of either call, which these are handed.

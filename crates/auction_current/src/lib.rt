@@ -1,4 +1,4 @@
-// Paper 02, 7: "Auction price kept current". Unless the count, a length or the place is refused before, both calls change the list, have the price worked out by request 6's call, and put back what they changed where that refuses: an order is asked once.
+// Paper 02, 7: "Auction price kept current". Unless the count, a length or the place is refused before, both calls change the list, have the price worked out by request 6's call, and put back what they changed where that refuses, or where the order taken out is bad: an order is asked once.
 ghost use mathlib.Core.Path.{_≡_};
 ghost use mathlib.Core.Bool.{cond};
 ghost use Prim.Native.Nat.{_≤_};

@@ -65,7 +65,7 @@ calls l cs right = record { first = l; history = map (λ c. (c, 0)) cs; from = 0
 abbrev does : Lent → Call → ℕ → Seen → Case
 does l c from right = record { first = l; history = (c, 0) ∷ []; from = from; right = right ∷ [] }
 
--- one call, refused: everything stands as it stood
+-- one call, refused: the count and what is looked at stand as they stood
 abbrev refuses : Lent → Call → ℕ → Case
 refuses l c n = does l c 0 (look 0 (Refused n) l)
 
