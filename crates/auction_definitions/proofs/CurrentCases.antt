@@ -13,7 +13,7 @@ use Rattle.auction_definitions.specs.Current.{Add, Call, Lent, Take, cal
 use Rattle.definitions.specs.Lists.{any, firstMet, keep}
 use Rattle.ladder.specs.Ladder.{legal, bandOfPrice, lastBand}
 use Rattle.auction_definitions.proofs.Books.{book002, book003, buying, evenBook, many, selling}
-use Rattle.auction_definitions.proofs.CurrentHistories.{History}
+use Rattle.auction_definitions.proofs.CallHistory.{History}
 
 -- after a call: the answer, the count, and sixteen places of the list and of the scratch list, or as many as there are left
 pub record Seen : Type 0 where

@@ -1,4 +1,4 @@
--- Histories of request 7's calls. The request speaks of one call; whoever keeps a list needs this of all of them: "after any sequence of calls the list is what the accepted calls make of it, in their order, and the last answer is the auction's of that list" (the issue of its landing).
+-- Every history of request 7's calls. The request speaks of one call; whoever keeps a list needs this of all of them: "after any sequence of calls the list is what the accepted calls make of it, in their order, and the last answer is the auction's of that list" (the issue of its landing).
 -- Assumes nothing.
 use mathlib.Core.Bool.{Bool, false, not}
 use mathlib.Core.List.{List, [], _∷_, _++_}
@@ -13,43 +13,9 @@ use Rattle.auction_definitions.specs.declared.AuctionAnswer.the-variants
 use Rattle.auction_definitions.specs.Auction.{badOrder}
 use Rattle.auction_definitions.specs.Volumes.{auctionInOne}
 use Rattle.auction_definitions.specs.Current.{Call, Lent, callAnswer, callRefusal, changed, held, isRefused, lentAfter, lentOf}
+use Rattle.auction_definitions.proofs.CallHistory.{History, ran, Done, doneAt, done, accepted, made}
 use Rattle.auction_definitions.proofs.CurrentCalls.{Accepted, HoldsBad, changed-good, changed-most, changed-places, either-way, held-bad, same-made, says-not}
 use Rattle.auction_definitions.proofs.CurrentPromises.{answer-afresh, answered, count-held, held-after, left, list-as-long, refused-equal, refused-with, scratch-as-long}
-
--- calls one after the other, each with its reference
-abbrev pub History : Type 0
-History = List (Call × ℕ)
-
--- what they leave
-unfoldable pub ran : Lent → History → Lent
-ran l [] = l
-ran l (c ∷ cs) = ran (lentAfter (c .0) l) cs
-
--- a call with its reference and its answer
-pub record Done : Type 0 where
-  pub call : Call
-  pub reference : ℕ
-  pub answer : AuctionAnswer
-
-abbrev doneAt : Lent → Call × ℕ → Done
-doneAt l c = record { call = c .0; reference = c .1; answer = callAnswer (c .0) (c .1) l }
-
-unfoldable pub done : Lent → History → List Done
-done l [] = []
-done l (c ∷ cs) = doneAt l c ∷ done (lentAfter (c .0) l) cs
-
--- a call is accepted where its answer is no refusal
-abbrev pub isAccepted : Done → Bool
-isAccepted d = not (isRefused (d .answer))
-
--- the accepted calls, in their order
-unfoldable pub accepted : Lent → History → List Done
-accepted l history = keep isAccepted (done l history)
-
--- what calls make of orders
-unfoldable pub made : List Done → List AuctionOrder → List AuctionOrder
-made [] os = os
-made (d ∷ ds) os = made ds (changed (d .call) os)
 
 cons-some : {d : Done} {ds : List Done} → d ∷ ds ≡ [] → ⊥
 cons-some e = omega (arith, ap length e)

@@ -10,6 +10,7 @@ pub mod Promises
 pub mod VolumePromises
 pub mod CurrentCalls
 pub mod CurrentPromises
+pub mod CallHistory
 pub mod CurrentHistories
 pub mod Books
 pub mod Cases
