@@ -11,7 +11,6 @@ use borrow.Author.Tests.{ltb-true, ltb-false}
 use Rattle.definitions.specs.declared.Row.{Row}
 use Rattle.definitions.specs.declared.Desk.{Desk}
 use Rattle.definitions.specs.declared.Event.{Event}
-use Rattle.definitions.specs.declared.Event.the-variants as event
 use Rattle.definitions.specs.declared.Verdict.{Verdict}
 use Rattle.definitions.specs.declared.Verdict.the-variants as verdict
 use Rattle.definitions.specs.declared.Counter.{Counter}
@@ -22,10 +21,11 @@ use Rattle.definitions.specs.Codes.{maxCount}
 use Rattle.definitions.specs.Lists.{count, firstMet}
 use Rattle.definitions.specs.State.{headerOf, deskAt}
 use Rattle.definitions.specs.Answers.{verdictNumber}
-use Rattle.definitions.specs.Events.{eventIn, bytesConditions, one, customerNamed, Owner, market, customer, nobody, ownerNamed, ownerOf}
+use Rattle.definitions.specs.Events.{eventIn, bytesConditions}
+use Rattle.definitions.specs.Changes.{Change, setClock, setSession, setSecurity, enterOrder, setRows, changeOf, one, named, customerNamed, Owner, market, customer, nobody, ownerNamed, ownerOf}
 use Rattle.definitions.specs.Desks.{freshDesk, countedUp, withRows, sessionRow, changed, counted, takesRow, added, ordered}
-use Rattle.definitions.specs.Gate.{answerOf, refused, perform, outcome, conditions, eventAnswer, eventWords, wordsAfter, answersTo}
-use Rattle.definitions.specs.Lone.{Lone, loneConditions, loneVerdict, lonePerform, loneOutcome, fedTo, isFed}
+use Rattle.definitions.specs.Gate.{answerOf, refused, applied, perform, outcome, conditions, eventAnswer, eventWords, wordsAfter, answersTo}
+use Rattle.definitions.specs.Lone.{Lone, loneConditions, loneVerdict, loneApplied, loneOutcome, fedTo, isFed}
 use Rattle.definitions.proofs.Tests.{either}
 use Rattle.definitions.proofs.Lists.{bit, count-cons}
 use Rattle.definitions.proofs.Rows.{count-none}
@@ -109,25 +109,21 @@ module _ (c : Counter) (l : Lone) where
   abbrev Counts : Answer × Lone → Type 0
   Counts x = counterIn c (x .1 .desk) ≡ raised (countsAnswer c (x .0)) (counterIn c (l .desk))
 
-  counts-performed : (e : Event) → Counts (lonePerform l e)
-  unfolding lonePerform ordered added
-  counts-performed (event.Clock t) = refl
-  counts-performed (event.Session s) = either Counts (eqb s (headerOf (l .market) .session)) _ _ (λ _. refl) (λ _. counter-changed c sessionRow (l .desk))
-  counts-performed (event.Setup x) = refl
-  counts-performed (event.Prices x) = refl
-  counts-performed (event.Order k x) =
+  counts-applied : (e : Change) → Counts (loneApplied l e)
+  unfolding loneApplied ordered added
+  counts-applied (setClock t) = refl
+  counts-applied (setSession s) = either Counts (eqb s (headerOf (l .market) .session)) _ _ (λ _. refl) (λ _. counter-changed c sessionRow (l .desk))
+  counts-applied (setSecurity s f) = refl
+  counts-applied (enterOrder k x) =
       let v = loneVerdict l x in
       counted-raises v _ c
       ∙ ap (raised (countsVerdict c (verdictNumber v)))
       (either (λ (d : Desk). counterIn c d ≡ counterIn c (l .desk)) (takesRow v) _ _ (λ _. counter-with-rows c _ (l .desk)) (λ _. refl))
-  counts-performed (event.Cancel k x) = counter-changed c _ (l .desk)
-  counts-performed (event.Match k x) = counter-changed c _ (l .desk)
-  counts-performed (event.Rest k x) = counter-changed c _ (l .desk)
-  counts-performed (event.Figures x) = refl
+  counts-applied (setRows k f) = counter-changed c _ (l .desk)
 
   counts-outcome : (b : List ℕ) → Counts (loneOutcome l b)
   unfolding loneOutcome
-  counts-outcome b = either Counts (eqb (firstMet (loneConditions l b)) 0) _ _ (λ _. counts-performed (eventIn b)) (λ _. refl)
+  counts-outcome b = either Counts (eqb (firstMet (loneConditions l b)) 0) _ _ (λ _. counts-applied (changeOf (eventIn b))) (λ _. refl)
 
 -- an event that is fed to the lone run of k is k's, or the market's and not answered with a verdict
 module _ (c : Counter) (customers k : ℕ) (w : List ℕ) where
@@ -138,23 +134,18 @@ module _ (c : Counter) (customers k : ℕ) (w : List ℕ) where
       go true e = e
       go false e = e
 
-  abbrev told : Event → Bool
-  told e = countsAnswer c (answerOf (perform w e))
+  abbrev told : Change → Bool
+  told e = countsAnswer c (answerOf (applied w e))
 
-  own-counted : (e : Event) → fedTo k (ownerNamed customers (customerNamed e)) ≡ true → isOwner k (ownerNamed customers (customerNamed e)) && told e ≡ told e
-  unfolding perform
-  own-counted (event.Clock t) fed = refl
-  own-counted (event.Session s) fed = refl
-  own-counted (event.Setup x) fed = refl
-  own-counted (event.Prices x) fed = refl
-  own-counted (event.Order j x) fed = rw (own j fed)
-  own-counted (event.Cancel j x) fed = rw (own j fed)
-  own-counted (event.Match j x) fed = rw (own j fed)
-  own-counted (event.Rest j x) fed = rw (own j fed)
-  own-counted (event.Figures x) fed = refl
+  own-counted : (e : Change) → fedTo k (ownerNamed customers (named e .0)) ≡ true → isOwner k (ownerNamed customers (named e .0)) && told e ≡ told e
+  own-counted (setClock t) fed = refl
+  own-counted (setSession s) fed = refl
+  own-counted (setSecurity s f) fed = refl
+  own-counted (enterOrder j x) fed = rw (own j fed)
+  own-counted (setRows j f) fed = rw (own j fed)
 
   fed-counted : (b : List ℕ) → isFed customers k b ≡ true → belongsTo customers k b && countsAnswer c (eventAnswer w b) ≡ countsAnswer c (eventAnswer w b)
-  unfolding isFed belongsTo ownerOf outcome
+  unfolding isFed belongsTo ownerOf outcome perform
   fed-counted b = go (eqb (firstMet (bytesConditions b)) 0) (eqb (firstMet (conditions w b)) 0)
     where
       e : Event
@@ -167,7 +158,7 @@ module _ (c : Counter) (customers k : ℕ) (w : List ℕ) where
       given u = countsAnswer c (answerOf (cond u (perform w e) (refused (firstMet (conditions w b)))))
 
       go : (t u : Bool) → fedTo k (owner t) ≡ true → isOwner k (owner t) && given u ≡ given u
-      go true true fed = own-counted e fed
+      go true true fed = own-counted (changeOf e) fed
       go true false fed = and-false (isOwner k (owner true))
       go false u fed = absurd (false≢true fed)
 

@@ -6,7 +6,8 @@ use Prim.Native.Nat.{ℕ, zero, suc}
 use lib.ListN.{take}
 use Rattle.definitions.specs.declared.Event.{Event}
 use Rattle.definitions.specs.declared.Event.the-variants as event
-use Rattle.definitions.specs.Events.{eventIn, Owner, market, customer, nobody, ownerOf}
+use Rattle.definitions.specs.Events.{eventIn}
+use Rattle.definitions.specs.Changes.{Owner, market, customer, nobody, ownerOf}
 use Rattle.definitions.specs.Lone.{isFed}
 use Rattle.definitions.specs.Walk.{taken, split}
 use Rattle.definitions.proofs.Bytes.{clock, session, setup, prices, order, cancel, match, rest, figures}

@@ -13,7 +13,6 @@ use Rattle.definitions.specs.declared.Figures.{Figures}
 use Rattle.definitions.specs.declared.Security.{Security}
 use Rattle.definitions.specs.declared.SecurityFigures.{SecurityFigures}
 use Rattle.definitions.specs.declared.BoardPrices.{BoardPrices}
-use Rattle.definitions.specs.declared.Row.{Row}
 use Rattle.definitions.specs.declared.Event.{Event}
 use Rattle.definitions.specs.declared.Event.the-variants as event
 use Rattle.definitions.specs.declared.Answer.the-variants as answer
@@ -22,12 +21,13 @@ use Rattle.definitions.specs.Lists.{firstMet}
 use Rattle.definitions.specs.State.{noFigures, headerOf, securityAt, deskAt, putSecurity}
 use Rattle.definitions.specs.Sound.{settable}
 use Rattle.definitions.specs.Events.{two, eventIn, bytesConditions}
-use Rattle.definitions.specs.Desks.{cancelledRow, matchedRow, restRow, changed}
+use Rattle.definitions.specs.Changes.{Change, setClock, setSession, setSecurity, enterOrder, setRows, changeOf}
 use Rattle.definitions.specs.Refusals.{badName}
-use Rattle.definitions.specs.Gate.{Outcome, wordsOf, afterSetup, afterPrices, afterFigures, changeSecurity, changeDesk, afterSession, perform, eventAnswer, eventWords}
+use Rattle.definitions.specs.Gate.{Outcome, wordsOf, changeSecurity, afterSession, applied, perform, eventAnswer, eventWords}
+use Rattle.definitions.specs.Securities.{afterSetup, afterPrices, afterFigures}
 use Rattle.definitions.proofs.Tests.{either}
-use Rattle.definitions.proofs.Passed.{Passed, table, passed, none-met-event, answer-read}
-use Rattle.definitions.proofs.WellFormed.{Good, fits, compared, records-sound, security-counted, below-securities, order-names, badCustomer, customer-named}
+use Rattle.definitions.proofs.Passed.{Passed, table, passed, Inside, none-met-event, answer-read}
+use Rattle.definitions.proofs.WellFormed.{Good, fits, compared, records-sound, security-counted, below-securities, order-names, customer-named}
 use Rattle.definitions.proofs.SoundDesk as desk
 use Rattle.definitions.proofs.State as state
 use Rattle.definitions.proofs.HeaderWords as words
@@ -45,6 +45,30 @@ figuresBy (event.Cancel k x) s f = f
 figuresBy (event.Match k x) s f = f
 figuresBy (event.Rest k x) s f = f
 figuresBy (event.Figures x) s f = cond (eqb (x .security) s) (x .figures) f
+
+-- and what its change leaves of them
+abbrev figuresIn : Change → ℕ → Security → Figures
+figuresIn (setClock t) s y = y .figures
+figuresIn (setSession t) s y = y .figures
+figuresIn (setSecurity t f) s y = cond (eqb t s) (f y .figures) (y .figures)
+figuresIn (enterOrder k x) s y = y .figures
+figuresIn (setRows k f) s y = y .figures
+
+prices-keep : (x : BoardPrices) (y : Security) → afterPrices x y .figures ≡ y .figures
+unfolding afterPrices
+prices-keep x y = either (λ (z : Security). z .figures ≡ y .figures) (eqb (x .board) foreignBoard) _ _ (λ _. refl) (λ _. refl)
+
+kind-figures : (e : Event) (s : ℕ) (y : Security) → figuresIn (changeOf e) s y ≡ figuresBy e s (y .figures)
+unfolding afterSetup afterFigures
+kind-figures (event.Clock t) s y = refl
+kind-figures (event.Session t) s y = refl
+kind-figures (event.Setup x) s y = refl
+kind-figures (event.Prices x) s y = either (λ (g : Figures). g ≡ y .figures) (eqb (x .security) s) _ _ (λ _. prices-keep x y) (λ _. refl)
+kind-figures (event.Order k x) s y = refl
+kind-figures (event.Cancel k x) s y = refl
+kind-figures (event.Match k x) s y = refl
+kind-figures (event.Rest k x) s y = refl
+kind-figures (event.Figures x) s y = refl
 
 -- a security with other figures, and all else as it was
 abbrev pub withFigures : Figures → Security → Security
@@ -101,31 +125,23 @@ module _ {customers securities : ℕ} (w : List ℕ) (good : Good customers secu
       (λ more. rw (ne-eqb t s (λ same. omega (arith, more, same))) (ap (λ (y : Security). y .figures) (state.security-put-above w (good .sized) t t-below x s more))))
       (compared s t)
 
-  prices-keep : (x : BoardPrices) (y : Security) → afterPrices x y .figures ≡ y .figures
-  unfolding afterPrices
-  prices-keep x y = either (λ (z : Security). z .figures ≡ y .figures) (eqb (x .board) foreignBoard) _ _ (λ _. refl) (λ _. refl)
-
-  desk-keeps : (k : ℕ) → badCustomer w k ≡ false → (f : Row → Row) (s : ℕ) → s < securities → securityAt (changeDesk (changed f) k w) s .figures ≡ securityAt w s .figures
-  desk-keeps k named f s s-below =
-      ap (λ (y : Security). y .figures) (state.security-put-desk w (good .sized) k (customer-named w good k named) _ (desk.length-changed f (deskAt w k) ∙ state.length-desk-rows w k) s s-below)
+  figures-applied : (c : Change) → Inside w c → (s : ℕ) → s < securities → securityAt (wordsOf w (applied w c)) s .figures ≡ figuresIn c s (securityAt w s)
+  unfolding afterSession
+  figures-applied (setClock t) inside s below = ap (λ (y : Security). y .figures) (words.security-put w (good .sized) 2 (lit≤ tt) (lit< tt) t s)
+  figures-applied (setSession t) inside s below =
+      either (λ (v : List ℕ). securityAt v s .figures ≡ securityAt w s .figures) (eqb t (headerOf w .session)) _ _ (λ _. refl) (λ _. changed-words w good t .security s below .figures)
+  figures-applied (setSecurity t f) inside s below = figures-changed f t (below-securities w good t inside) s below
+  figures-applied (enterOrder k x) inside s below =
+      ap (λ (y : Security). y .figures)
+      (state.security-put-desk w (good .sized) k (order-names w good k (x .security) inside .0) _
+      (desk.length-ordered _ (headerOf w .clock) x (deskAt w k) ∙ state.length-desk-rows w k) s below)
+  figures-applied (setRows k f) inside s below =
+      ap (λ (y : Security). y .figures)
+      (state.security-put-desk w (good .sized) k (customer-named w good k inside) _ (desk.length-changed _ (deskAt w k) ∙ state.length-desk-rows w k) s below)
 
   pub figures-performed : (e : Event) → Passed w e → (s : ℕ) → s < securities → securityAt (wordsOf w (perform w e)) s .figures ≡ figuresBy e s (securityAt w s .figures)
-  unfolding perform afterSession afterSetup afterFigures
-  figures-performed (event.Clock t) p s below = ap (λ (y : Security). y .figures) (words.security-put w (good .sized) 2 (lit≤ tt) (lit< tt) t s)
-  figures-performed (event.Session t) p s below =
-      either (λ (v : List ℕ). securityAt v s .figures ≡ securityAt w s .figures) (eqb t (headerOf w .session)) _ _ (λ _. refl) (λ _. changed-words w good t .security s below .figures)
-  figures-performed (event.Setup x) p s below = figures-changed (afterSetup x) (x .security) (below-securities w good (x .security) (passed 4 w (event.Setup x) p)) s below
-  figures-performed (event.Prices x) p s below =
-      figures-changed (afterPrices x) (x .security) (below-securities w good (x .security) (passed 4 w (event.Prices x) p)) s below
-      ∙ either (λ (g : Figures). g ≡ securityAt w s .figures) (eqb (x .security) s) _ _ (λ _. prices-keep x (securityAt w s)) (λ _. refl)
-  figures-performed (event.Order k x) p s below =
-      ap (λ (y : Security). y .figures)
-      (state.security-put-desk w (good .sized) k (order-names w good k (x .security) (passed 4 w (event.Order k x) p) .0) _
-      (desk.length-ordered _ (headerOf w .clock) x (deskAt w k) ∙ state.length-desk-rows w k) s below)
-  figures-performed (event.Cancel k x) p s below = desk-keeps k (passed 4 w (event.Cancel k x) p) (cancelledRow (x .number) (headerOf w .clock)) s below
-  figures-performed (event.Match k x) p s below = desk-keeps k (passed 4 w (event.Match k x) p) (matchedRow (x .number) (x .volume)) s below
-  figures-performed (event.Rest k x) p s below = desk-keeps k (passed 4 w (event.Rest k x) p) (restRow (x .number) (x .price)) s below
-  figures-performed (event.Figures x) p s below = figures-changed (afterFigures x) (x .security) (below-securities w good (x .security) (passed 4 w (event.Figures x) p)) s below
+  unfolding perform
+  figures-performed e p s below = figures-applied (changeOf e) (passed 4 w e p) s below ∙ kind-figures e s (securityAt w s)
 
   -- "New kind 9", "kind 3 clears it": they alone change figures, and those of their own security
   pub figures-done : (b : List ℕ) (s : ℕ) → s < securities → ((n : ℕ) → eventAnswer w b ≡ answer.Refused n → ⊥) → securityAt (eventWords w b) s .figures ≡ figuresBy (eventIn b) s (securityAt w s .figures)

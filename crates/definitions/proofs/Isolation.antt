@@ -15,23 +15,24 @@ use Rattle.definitions.specs.declared.Row.{Row}
 use Rattle.definitions.specs.declared.Desk.{Desk}
 use Rattle.definitions.specs.declared.Order.{Order}
 use Rattle.definitions.specs.declared.Event.{Event}
-use Rattle.definitions.specs.declared.Event.the-variants as event
 use Rattle.definitions.specs.declared.Answer.{Answer}
 use Rattle.definitions.specs.declared.Answer.the-variants as answer
 use Rattle.definitions.specs.Codes.{deskRows}
 use Rattle.definitions.specs.Lists.{each, put, firstMet}
 use Rattle.definitions.specs.State.{headerOf, securityAt, deskAt, putSecurity, putDesk, sessionPlace}
-use Rattle.definitions.specs.Events.{eventIn, bytesConditions, Named, none, one, every, customerNamed, securityNamed, customer, nobody, ownerNamed, ownerOf}
-use Rattle.definitions.specs.Desks.{sessionRow, cancelledRow, matchedRow, restRow, changed, ordered}
+use Rattle.definitions.specs.Events.{eventIn, bytesConditions}
+use Rattle.definitions.specs.Changes.{Change, setClock, setSession, setSecurity, enterOrder, setRows, changeOf, Named, none, one, every, ifOne, named, customerNamed, securityNamed, customer, nobody, ownerNamed, ownerOf}
+use Rattle.definitions.specs.Desks.{freshDesk, sessionRow, changed, ordered}
 use Rattle.definitions.specs.Rules.{View, verdictOf}
 use Rattle.definitions.specs.Refusals.{beyond, badName, earlyConditions, laterConditions, eventConditions}
-use Rattle.definitions.specs.Gate.{Outcome, refused, done, answerOf, wordsOf, numberOf, viewOf, recordsSound, conditions, afterSetup, afterPrices, afterFigures, afterSession, sessionMarket, changeSecurity, changeDesk, perform, refusedOr, outcome, eventWords, withoutProjected}
-use Rattle.definitions.specs.Lone.{Lone, marketWords, loneView, loneConditions, loneDone, loneSession, lonePerform, loneRefusedOr, loneOutcome, fedTo, isFed}
+use Rattle.definitions.specs.Gate.{Outcome, refused, done, answerOf, wordsOf, viewBy, viewOf, recordsSound, conditions, afterSession, sessionMarket, changeSecurity, changeDesk, applied, perform, refusedOr, outcome, eventWords}
+use Rattle.definitions.specs.Securities.{withoutProjected}
+use Rattle.definitions.specs.Lone.{Lone, marketWords, loneConditions, loneDone, loneApplied, loneRefusedOr, loneOutcome, fedTo, isFed}
 use Rattle.definitions.proofs.Tests.{or-parts}
 use Rattle.definitions.proofs.Table.{first-append, first-without}
 use Rattle.definitions.proofs.State as state
 use Rattle.definitions.proofs.HeaderWords as words
-use Rattle.definitions.proofs.Passed.{table, Passed, passed, numbered-bytes, none-met-bytes, none-met-event, outcome-read}
+use Rattle.definitions.proofs.Passed.{table, Passed, passed, Inside, numbered-bytes, none-met-bytes, none-met-event, outcome-read}
 use Rattle.definitions.proofs.SoundDesk as desk
 use Rattle.definitions.proofs.WellFormed.{Good, fits, compared, records-sound, cleared, whole-session, order-names, badCustomer, customer-named, below-securities}
 
@@ -71,41 +72,29 @@ module _ {customers securities : ℕ} (w : List ℕ) (good : Good customers secu
       leb-true 1 securities (and-eq-true-iff (leb 1 customers && leb customers 256) (leb 1 securities) .0 (parts .0) .1)
 
   -- a security that is named is there, and where none is, security 0 is
-  named-there : (x : Named) → beyond (headerOf w .securities) x ≡ false → numberOf x < securities
+  named-there : (x : Named) → beyond (headerOf w .securities) x ≡ false → ifOne 0 (λ s. s) x < securities
   named-there none inside = some-security
   named-there (one s) inside = below-securities w good s inside
   named-there every inside = some-security
 
-  -- the lone run meets what the gate meets, where the event is k's and the security that it names is there
-  view-same : (e : Event) → badName (headerOf w) e ≡ false → numberOf (customerNamed e) ≡ k → loneView (loneOf w k) (numberOf (securityNamed e)) ≡ viewOf w e
-  view-same e n own =
-      let parts = or-parts (beyond (headerOf w .customers) (customerNamed e)) (beyond (headerOf w .securities) (securityNamed e)) n in
-      ap₂ (λ (h : Header) (s : Security). viewWith h s (deskAt w k)) header-same (security-same (numberOf (securityNamed e)) (named-there (securityNamed e) (parts .1)))
-      ∙ ap (λ (j : ℕ). viewWith (headerOf w) (securityAt w (numberOf (securityNamed e))) (deskAt w j)) (sym own)
-
   abbrev pub Fed : Event → Type 0
   Fed e = fedTo k (ownerNamed customers (customerNamed e)) ≡ true
 
-  abbrev metAlone : Event → View
-  metAlone e = loneView (loneOf w k) (numberOf (securityNamed e))
+  -- the lone run meets what the gate meets: the desk of the customer that is named, and the security, where both are there
+  desk-same : (x : Named) → fedTo k (ownerNamed customers x) ≡ true → ifOne freshDesk (λ j. deskAt w k) x ≡ ifOne freshDesk (deskAt w) x
+  desk-same none fed = refl
+  desk-same (one j) fed = ap (deskAt w) (sym (fed-customer customers j k fed))
+  desk-same every fed = refl
 
-  -- the conditions after 8 see a desk only where the event is a customer's, and a security only where it is named
-  tests-same : (e : Event) → Fed e → badName (headerOf w) e ≡ false → foundBy (headerOf w) [] (metAlone e) e ≡ foundBy (headerOf w) [] (viewOf w e) e
-  tests-same (event.Clock t) fed n = refl
-  tests-same (event.Session s) fed n = refl
-  tests-same (event.Setup x) fed n = refl
-  tests-same (event.Prices x) fed n = refl
-  tests-same (event.Order j x) fed n =
-      ap (λ (v : View). foundBy (headerOf w) [] v (event.Order j x)) (view-same (event.Order j x) n (fed-customer customers j k fed))
-  tests-same (event.Cancel j x) fed n =
-      ap (λ (v : View). foundBy (headerOf w) [] v (event.Cancel j x)) (view-same (event.Cancel j x) n (fed-customer customers j k fed))
-  tests-same (event.Match j x) fed n =
-      ap (λ (v : View). foundBy (headerOf w) [] v (event.Match j x)) (view-same (event.Match j x) n (fed-customer customers j k fed))
-  tests-same (event.Rest j x) fed n =
-      ap (λ (v : View). foundBy (headerOf w) [] v (event.Rest j x)) (view-same (event.Rest j x) n (fed-customer customers j k fed))
-  tests-same (event.Figures x) fed n =
-      ap₂ (λ (h : Header) (s : Security). foundBy (headerOf w) [] (viewWith h s (deskAt w k)) (event.Figures x)) header-same
-      (security-same (x .security) (below-securities w good (x .security) n))
+  abbrev metAlone : Event → View
+  metAlone e = viewBy (λ j. deskAt w k) (marketWords w) e
+
+  view-same : (e : Event) → Fed e → badName (headerOf w) e ≡ false → metAlone e ≡ viewOf w e
+  view-same e fed n =
+      let parts = or-parts (beyond (headerOf w .customers) (customerNamed e)) (beyond (headerOf w .securities) (securityNamed e)) n in
+      let s = ifOne 0 (λ s. s) (securityNamed e) in
+      ap₂ (λ (h : Header) (x : Security). viewWith h x (ifOne freshDesk (λ j. deskAt w k) (customerNamed e))) header-same (security-same s (named-there (securityNamed e) (parts .1)))
+      ∙ ap (viewWith (headerOf w) (securityAt w s)) (desk-same (customerNamed e) fed)
 
   -- "gets the number found first": the same in both, since condition 8 never arises
   same-refusal : (e : Event) → Fed e → foundBy (headerOf (marketWords w)) [] (metAlone e) e ≡ firstMet (table w e)
@@ -114,7 +103,7 @@ module _ {customers securities : ℕ} (w : List ℕ) (good : Good customers secu
       go : (t : Bool) → badName (headerOf w) e ≡ t → foundBy (headerOf w) [] (metAlone e) e ≡ firstMet (table w e)
       go true n = named-first (headerOf w) [] ((8, not (recordsSound w e)) ∷ []) (metAlone e) (viewOf w e) e n
       go false n =
-          tests-same e fed n
+          ap (λ (v : View). foundBy (headerOf w) [] v e) (view-same e fed n)
           ∙ sym (first-without (earlyConditions (headerOf w) e) (laterConditions (viewOf w e) e) 8)
           ∙ ap (λ (t : Bool). foundBy (headerOf w) ((8, not t) ∷ []) (viewOf w e) e) (sym (records-sound w good e n))
 
@@ -146,8 +135,8 @@ module _ {customers securities : ℕ} (w : List ℕ) (good : Good customers secu
   put-back-changed : (f : Row → Row) → loneDone answer.Ok (marketWords w) (changed f (deskAt w k)) ≡ shown (done answer.Ok (changeDesk (changed f) k w))
   put-back-changed f = put-back answer.Ok (changed f (deskAt w k)) (desk.length-changed f (deskAt w k) ∙ state.length-desk-rows w k)
 
-  session-same : (s : ℕ) → loneSession (loneOf w k) s ≡ shown (perform w (event.Session s))
-  unfolding perform afterSession sessionMarket
+  session-same : (s : ℕ) → loneApplied (loneOf w k) (setSession s) ≡ shown (applied w (setSession s))
+  unfolding loneApplied afterSession sessionMarket
   session-same s =
       ap (λ (h : Header). cond (eqb s (h .session)) (loneDone answer.Ok (marketWords w) (deskAt w k)) anew) header-same ∙ go (eqb s (headerOf w .session))
     where
@@ -165,44 +154,39 @@ module _ {customers securities : ℕ} (w : List ℕ) (good : Good customers secu
           ∙ sym (cleared w good s .market)
           ∙ sym (whole-session w good s .market)
 
-      desk-same : changed sessionRow (deskAt w k) ≡ deskAt changed-words k
-      desk-same =
+      own-desk : changed sessionRow (deskAt w k) ≡ deskAt changed-words k
+      own-desk =
           ap (changed sessionRow) (sym (words.desk-put w (good .sized) 3 (lit≤ tt) (lit< tt) s k) ∙ sym (cleared w good s .desks k)) ∙ sym (whole-session w good s .done k below)
 
       go : (t : Bool) → cond t (loneDone answer.Ok (marketWords w) (deskAt w k)) anew ≡ loneDone answer.Ok (marketWords (cond t w changed-words)) (deskAt (cond t w changed-words) k)
       go true = refl
-      go false = ap₂ (loneDone answer.Ok) market-same desk-same
+      go false = ap₂ (loneDone answer.Ok) market-same own-desk
 
   -- an event that meets no condition does in the lone run what it does in the gate
-  pub same-perform : (e : Event) → Fed e → Passed w e → lonePerform (loneOf w k) e ≡ shown (perform w e)
-  unfolding lonePerform perform
-  same-perform (event.Clock t) fed p =
+  same-applied : (c : Change) → fedTo k (ownerNamed customers (named c .0)) ≡ true → Inside w c → loneApplied (loneOf w k) c ≡ shown (applied w c)
+  unfolding loneApplied
+  same-applied (setClock t) fed inside =
       ap₂ (loneDone answer.Ok) (sym (words.market-put w (good .sized) 2 (lit≤ tt) (lit< tt) t)) (sym (words.desk-put w (good .sized) 2 (lit≤ tt) (lit< tt) t k))
-  same-perform (event.Session s) fed p = session-same s
-  same-perform (event.Setup x) fed p =
-      put-security (x .security) (afterSetup x) (below-securities w good (x .security) (passed 4 w (event.Setup x) p))
-  same-perform (event.Prices x) fed p =
-      put-security (x .security) (afterPrices x) (below-securities w good (x .security) (passed 4 w (event.Prices x) p))
-  same-perform (event.Order j x) fed p =
-      ap₂ (orderBy x) header-same (security-same (x .security) (order-names w good j (x .security) (passed 4 w (event.Order j x) p) .1))
+  same-applied (setSession s) fed inside = session-same s
+  same-applied (setSecurity s f) fed inside = put-security s f (below-securities w good s inside)
+  same-applied (enterOrder j x) fed inside =
+      ap₂ (orderBy x) header-same (security-same (x .security) (order-names w good j (x .security) inside .1))
       ∙ put-back _ _ (desk.length-ordered _ (headerOf w .clock) x (deskAt w k) ∙ state.length-desk-rows w k)
-      ∙ ap (λ (i : ℕ). shown (perform w (event.Order i x))) (sym (fed-customer customers j k fed))
-  same-perform (event.Cancel j x) fed p =
-      ap (λ (h : Header). loneDone answer.Ok (marketWords w) (changed (cancelledRow (x .number) (h .clock)) (deskAt w k))) header-same
-      ∙ put-back-changed (cancelledRow (x .number) (headerOf w .clock))
-      ∙ ap (λ (i : ℕ). shown (perform w (event.Cancel i x))) (sym (fed-customer customers j k fed))
-  same-perform (event.Match j x) fed p =
-      put-back-changed (matchedRow (x .number) (x .volume)) ∙ ap (λ (i : ℕ). shown (perform w (event.Match i x))) (sym (fed-customer customers j k fed))
-  same-perform (event.Rest j x) fed p =
-      put-back-changed (restRow (x .number) (x .price)) ∙ ap (λ (i : ℕ). shown (perform w (event.Rest i x))) (sym (fed-customer customers j k fed))
-  same-perform (event.Figures x) fed p =
-      put-security (x .security) (afterFigures x) (below-securities w good (x .security) (passed 4 w (event.Figures x) p))
+      ∙ ap (λ (i : ℕ). shown (applied w (enterOrder i x))) (sym (fed-customer customers j k fed))
+  same-applied (setRows j f) fed inside =
+      ap (λ (h : Header). loneDone answer.Ok (marketWords w) (changed (f (h .clock)) (deskAt w k))) header-same
+      ∙ put-back-changed (f (headerOf w .clock))
+      ∙ ap (λ (i : ℕ). shown (applied w (setRows i f))) (sym (fed-customer customers j k fed))
+
+  pub same-perform : (e : Event) → Fed e → Passed w e → loneApplied (loneOf w k) (changeOf e) ≡ shown (perform w e)
+  unfolding perform
+  same-perform e fed p = same-applied (changeOf e) fed (passed 4 w e p)
 
   -- an event of the market or of k
   pub same-event : (b : List ℕ) → isFed customers k b ≡ true → loneOutcome (loneOf w k) b ≡ shown (outcome w b)
   unfolding isFed ownerOf loneOutcome loneConditions
   same-event b fed =
-      ap (λ (n : ℕ). loneRefusedOr n (loneOf w k) (lonePerform (loneOf w k) e))
+      ap (λ (n : ℕ). loneRefusedOr n (loneOf w k) (loneApplied (loneOf w k) (changeOf e)))
       (first-append (bytesConditions b) (eventConditions (headerOf (marketWords w)) [] (metAlone e) e) (numbered-bytes b))
       ∙ read (eqb unread 0) refl fed
       ∙ ap shown (sym (outcome-read w b (fits w good)))
@@ -214,15 +198,15 @@ module _ {customers securities : ℕ} (w : List ℕ) (good : Good customers secu
       unread = firstMet (bytesConditions b)
 
       told : (t : Bool) → eqb (firstMet (table w e)) 0 ≡ t → Fed e
-          → cond t (lonePerform (loneOf w k) e) (loneDone (answer.Refused (firstMet (table w e))) (marketWords w) (deskAt w k)) ≡ shown (cond t (perform w e) (refused (firstMet (table w e))))
+          → cond t (loneApplied (loneOf w k) (changeOf e)) (loneDone (answer.Refused (firstMet (table w e))) (marketWords w) (deskAt w k)) ≡ shown (cond t (perform w e) (refused (firstMet (table w e))))
       told true unmet own = same-perform e own (eqb-true (firstMet (table w e)) 0 unmet)
       told false some own = refl
 
       read : (t : Bool) → eqb unread 0 ≡ t → fedTo k (cond t (ownerNamed customers (customerNamed e)) nobody) ≡ true
-          → loneRefusedOr (cond t (foundBy (headerOf (marketWords w)) [] (metAlone e) e) unread) (loneOf w k) (lonePerform (loneOf w k) e)
+          → loneRefusedOr (cond t (foundBy (headerOf (marketWords w)) [] (metAlone e) e) unread) (loneOf w k) (loneApplied (loneOf w k) (changeOf e))
           ≡ shown (refusedOr (cond t (firstMet (table w e)) unread) (perform w e))
       read true whole own =
-          ap (λ (n : ℕ). loneRefusedOr n (loneOf w k) (lonePerform (loneOf w k) e)) (same-refusal e own) ∙ told (eqb (firstMet (table w e)) 0) refl own
+          ap (λ (n : ℕ). loneRefusedOr n (loneOf w k) (loneApplied (loneOf w k) (changeOf e))) (same-refusal e own) ∙ told (eqb (firstMet (table w e)) 0) refl own
       read false short own = absurd (false≢true own)
 
   -- another customer's desk put back
@@ -243,19 +227,18 @@ module _ {customers securities : ℕ} (w : List ℕ) (good : Good customers secu
       let j-below = customer-named w good j named in
       other-desk j _ j-below (not-own j j-below other) (desk.length-changed f (deskAt w j) ∙ state.length-desk-rows w j)
 
+  other-applied : (c : Change) → fedTo k (ownerNamed customers (named c .0)) ≡ false → Inside w c → loneOf (wordsOf w (applied w c)) k ≡ loneOf w k
+  other-applied (setClock t) other inside = absurd (true≢false other)
+  other-applied (setSession s) other inside = absurd (true≢false other)
+  other-applied (setSecurity s f) other inside = absurd (true≢false other)
+  other-applied (enterOrder j x) other inside =
+      let j-below = order-names w good j (x .security) inside .0 in
+      other-desk j _ j-below (not-own j j-below other) (desk.length-ordered _ (headerOf w .clock) x (deskAt w j) ∙ state.length-desk-rows w j)
+  other-applied (setRows j f) other inside = other-changed j inside other (f (headerOf w .clock))
+
   pub other-perform : (e : Event) → fedTo k (ownerNamed customers (customerNamed e)) ≡ false → Passed w e → loneOf (wordsOf w (perform w e)) k ≡ loneOf w k
   unfolding perform
-  other-perform (event.Clock t) f p = absurd (true≢false f)
-  other-perform (event.Session s) f p = absurd (true≢false f)
-  other-perform (event.Setup x) f p = absurd (true≢false f)
-  other-perform (event.Prices x) f p = absurd (true≢false f)
-  other-perform (event.Order j x) f p =
-      let j-below = order-names w good j (x .security) (passed 4 w (event.Order j x) p) .0 in
-      other-desk j _ j-below (not-own j j-below f) (desk.length-ordered _ (headerOf w .clock) x (deskAt w j) ∙ state.length-desk-rows w j)
-  other-perform (event.Cancel j x) f p = other-changed j (passed 4 w (event.Cancel j x) p) f (cancelledRow (x .number) (headerOf w .clock))
-  other-perform (event.Match j x) f p = other-changed j (passed 4 w (event.Match j x) p) f (matchedRow (x .number) (x .volume))
-  other-perform (event.Rest j x) f p = other-changed j (passed 4 w (event.Rest j x) p) f (restRow (x .number) (x .price))
-  other-perform (event.Figures x) f p = absurd (true≢false f)
+  other-perform e other p = other-applied (changeOf e) other (passed 4 w e p)
 
   -- an event of another customer, or of nobody
   pub other-event : (b : List ℕ) → isFed customers k b ≡ false → loneOf (eventWords w b) k ≡ loneOf w k

@@ -17,6 +17,7 @@ pub mod SoundSecurity
 pub mod HeaderWords
 pub mod Session
 pub mod Passed
+pub mod ByKind
 pub mod WellFormed
 pub mod Fresh
 pub mod Isolation

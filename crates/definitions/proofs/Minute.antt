@@ -8,7 +8,7 @@ use native.Mathlib.Nat.{le-refl}
 use native.Mathlib.Omega.{arith}
 use lib.Dec.{eqb}
 use lib.ListN.{length}
-use borrow.Author.Tests.{ltb-false, le-leb, eq-eqb}
+use borrow.Author.Tests.{le-leb, eq-eqb}
 use Rattle.definitions.specs.declared.Row.{Row}
 use Rattle.definitions.specs.declared.Desk.{Desk}
 use Rattle.definitions.specs.declared.Cancel.{Cancel}
@@ -20,16 +20,18 @@ use Rattle.definitions.specs.Codes.{openMark, cancelledMark, limit, minu
 use Rattle.definitions.specs.Lists.{keep, count}
 use Rattle.definitions.specs.State.{row, headerOf, deskAt}
 use Rattle.definitions.specs.Sound.{marked, soundRow}
-use Rattle.definitions.specs.Desks.{closeUp, edited, expiredRow, sessionRow, cancelledRow, matchedRow, restRow, changed, rowOfOrder, addedLast, added, counterOf, counted, takesRow, ordered}
+use Rattle.definitions.specs.Desks.{closeUp, edited, expiredRow, sessionRow, cancelledRow, changed, rowOfOrder, addedLast, added, counterOf, counted, takesRow, ordered}
 use Rattle.definitions.specs.Gate.{perform, eventAnswer, eventWords, wordsAfter}
 use Rattle.definitions.specs.Events.{eventIn}
-use Rattle.definitions.specs.Lone.{Lone, loneVerdict, lonePerform}
+use Rattle.definitions.specs.Changes.{Change, setClock, setSession, setSecurity, enterOrder, setRows, changeOf}
+use Rattle.definitions.specs.Lone.{Lone, loneVerdict, loneApplied}
 use Rattle.definitions.proofs.Tests.{either}
 use Rattle.definitions.proofs.Rows.{all-kept}
 use Rattle.definitions.proofs.SoundDesk.{rows-counted, desk-true, length-changed}
 use Rattle.definitions.proofs.SoundRow.{cancelled-limit}
 use Rattle.definitions.proofs.State.{header-market, length-desk-rows, desk-put-same}
 use Rattle.definitions.proofs.Passed.{Passed, passed, none-met-event}
+use Rattle.definitions.proofs.ByKind.{Keeps, kind-keeps}
 use Rattle.definitions.proofs.WellFormed.{Good, keeps, customer-named}
 use Rattle.definitions.proofs.Refused.{unrefused, unrefused-performs}
 use Rattle.definitions.proofs.Isolation.{loneOf}
@@ -37,21 +39,17 @@ use Rattle.definitions.proofs.Standing.{StandsIn, stands-all, stands-ma
 use Rattle.definitions.proofs.Performed.{headerBy, kept-by-event, header-performed, desk-performed}
 
 -- refusal 7 never lets the clock go back
-clock-moves : (w : List ℕ) (e : Event) → Passed w e → headerOf w .clock ≤ headerBy e (headerOf w) .clock
-clock-moves w (event.Clock t) p = ltb-false t (headerOf w .clock) (passed 7 w (event.Clock t) p)
-clock-moves w (event.Session s) p = le-refl (headerOf w .clock)
-clock-moves w (event.Setup x) p = le-refl (headerOf w .clock)
-clock-moves w (event.Prices x) p = le-refl (headerOf w .clock)
-clock-moves w (event.Order k x) p = le-refl (headerOf w .clock)
-clock-moves w (event.Cancel k x) p = le-refl (headerOf w .clock)
-clock-moves w (event.Match k x) p = le-refl (headerOf w .clock)
-clock-moves w (event.Rest k x) p = le-refl (headerOf w .clock)
-clock-moves w (event.Figures x) p = le-refl (headerOf w .clock)
+clock-moves : (securities : ℕ) (w : List ℕ) (c : Change) → Keeps securities w c → headerOf w .clock ≤ headerBy c (headerOf w) .clock
+clock-moves securities w (setClock t) kept = kept .1
+clock-moves securities w (setSession s) kept = le-refl (headerOf w .clock)
+clock-moves securities w (setSecurity s f) kept = le-refl (headerOf w .clock)
+clock-moves securities w (enterOrder k x) kept = le-refl (headerOf w .clock)
+clock-moves securities w (setRows k f) kept = le-refl (headerOf w .clock)
 
 module _ {customers securities : ℕ} where
   clock-event : (w : List ℕ) → Good customers securities w → (b : List ℕ) → headerOf w .clock ≤ headerOf (eventWords w b) .clock
   clock-event w good =
-      kept-by-event (λ (v : List ℕ). headerOf w .clock ≤ headerOf v .clock) w (le-refl (headerOf w .clock)) (λ e p. rw (header-performed w good e p) (clock-moves w e p))
+      kept-by-event (λ (v : List ℕ). headerOf w .clock ≤ headerOf v .clock) w (le-refl (headerOf w .clock)) (λ e p. rw (header-performed w good e p) (clock-moves securities w (changeOf e) (kind-keeps securities w e p)))
 
   pub clock-history : (w : List ℕ) → Good customers securities w → (history : List (List ℕ)) → headerOf w .clock ≤ headerOf (wordsAfter w history) .clock
   unfolding wordsAfter
@@ -73,20 +71,16 @@ module _ (l : Lone) (r : Row) (mark : r .mark ≡ cancelledMark) (type : r .«or
       let expired = map (expiredRow (headerOf (l .market) .clock)) (l .desk .rows) in
       stands-added new (keep marked expired) (length expired - count marked expired) (all-kept marked expired) (stands-kept marked (rw mark) (stands-mapped _ not-expired there))
 
-  left-performed : (e : Event) → StandsIn r (lonePerform l e .1 .desk .rows)
-  unfolding lonePerform changed ordered counted added
-  left-performed (event.Clock t) = there
-  left-performed (event.Session s) =
+  left-applied : (securities : ℕ) (w : List ℕ) (c : Change) → Keeps securities w c → StandsIn r (loneApplied l c .1 .desk .rows)
+  unfolding loneApplied changed ordered counted added
+  left-applied securities w (setClock t) kept = there
+  left-applied securities w (setSession s) kept =
       either (λ (x : Answer × Lone). StandsIn r (x .1 .desk .rows)) (eqb s (headerOf (l .market) .session)) _ _ (λ _. there) (λ _. left-by sessionRow (rw type))
-  left-performed (event.Setup x) = there
-  left-performed (event.Prices x) = there
-  left-performed (event.Order k x) =
+  left-applied securities w (setSecurity s f) kept = there
+  left-applied securities w (enterOrder k x) kept =
       let v = loneVerdict l x in
       rw (rows-counted (counterOf v) _) (either (λ (d : Desk). StandsIn r (d .rows)) (takesRow v) _ _ (λ _. left-by-order (rowOfOrder x)) (λ _. there))
-  left-performed (event.Cancel k x) = left-by (cancelledRow (x .number) (headerOf (l .market) .clock)) (rw mark)
-  left-performed (event.Match k x) = left-by (matchedRow (x .number) (x .volume)) (rw mark)
-  left-performed (event.Rest k x) = left-by (restRow (x .number) (x .price)) (rw mark)
-  left-performed (event.Figures x) = there
+  left-applied securities w (setRows k f) kept = left-by (f (headerOf (l .market) .clock)) (kept .not-open (headerOf (l .market) .clock) r (rw mark))
 
 module _ {customers securities : ℕ} (k : ℕ) (below : k < customers) (r : Row) (mark : r .mark ≡ cancelledMark) where
   -- "a cancelled row is a limit"
@@ -101,7 +95,7 @@ module _ {customers securities : ℕ} (k : ℕ) (below : k < customers) (r : Row
       kept-by-event (λ (v : List ℕ). StandsIn r (deskAt v k .rows)) w there
       (λ e p.
       desk-performed w good (λ (d : Desk). StandsIn r (d .rows)) k below e p (λ _. there)
-      (left-performed (loneOf w k) r mark (is-limit w good there) (rw (header-market w (good .sized)) now) there e))
+      (left-applied (loneOf w k) r mark (is-limit w good there) (rw (header-market w (good .sized)) now) there securities w (changeOf e) (kind-keeps securities w e p)))
 
   pub left-in-minute : (w : List ℕ) → Good customers securities w → StandsIn r (deskAt w k .rows)
       → (later : List (List ℕ)) → headerOf (wordsAfter w later) .clock ≤ r .«cancel_time» + 60_000 → StandsIn r (deskAt (wordsAfter w later) k .rows)

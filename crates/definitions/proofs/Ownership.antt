@@ -11,7 +11,8 @@ use lib.ListN.{length, getD, List·getD-eq-default}
 use borrow.Author.Tests.{eqb-true, eqb-false, eq-eqb, ne-eqb, leb-true, leb-false, le-leb, lt-leb, ltb-true, ltb-false, lt-ltb, le-ltb}
 use Rattle.definitions.specs.declared.Event.{Event}
 use Rattle.definitions.specs.Lists.{firstMet}
-use Rattle.definitions.specs.Events.{two, kinds, lengthOf, eventOf, figuresOf, bytesConditions, customerNamed, Owner, market, customer, nobody, ownerNamed, ownerOf}
+use Rattle.definitions.specs.Events.{two, kinds, lengthOf, eventOf, figuresOf, bytesConditions}
+use Rattle.definitions.specs.Changes.{customerNamed, Owner, market, customer, nobody, ownerNamed, ownerOf}
 use Rattle.definitions.proofs.Tests.{and-parts}
 
 -- neither condition 2 nor condition 3 is met

@@ -1,6 +1,6 @@
 -- The table of an event in a state: what an event that meets none of its conditions has passed, condition by condition, each by its number.
 -- Assumes nothing.
-use mathlib.Core.Bool.{Bool, true, false, cond, not}
+use mathlib.Core.Bool.{Bool, true, false, cond, _||_, not}
 use mathlib.Core.List.{List, [], _∷_}
 use mathlib.Core.Path.{_≡_, refl, ap, _∙_}
 use Prim.Native.Nat.{ℕ}
@@ -12,8 +12,9 @@ use Rattle.definitions.specs.declared.Answer.the-variants as answer
 use Rattle.definitions.specs.Lists.{all, firstMet}
 use Rattle.definitions.specs.State.{headerOf, stateFits}
 use Rattle.definitions.specs.Events.{eventIn, bytesConditions}
-use Rattle.definitions.specs.Refusals.{eventConditions}
-use Rattle.definitions.specs.Gate.{answerOf, viewOf, recordsSound, conditions, perform, refusedOr, outcome, eventAnswer}
+use Rattle.definitions.specs.Refusals.{beyond, eventConditions}
+use Rattle.definitions.specs.Changes.{Change, setClock, setSession, setSecurity, enterOrder, setRows, changeOf, named}
+use Rattle.definitions.specs.Gate.{answerOf, viewOf, recordsSound, conditions, applied, perform, refusedOr, outcome, eventAnswer}
 use Rattle.definitions.proofs.Table.{Numbered, met, unmet, first-append, none-append}
 
 abbrev pub table : List ℕ → Event → List (ℕ × Bool)
@@ -45,19 +46,22 @@ numbered-table w (event.Figures x) = refl
 -- what an event does is never answered with a refusal
 pub never-refused : (w : List ℕ) (e : Event) (n : ℕ) → answerOf (perform w e) ≡ answer.Refused n → ⊥
 unfolding perform
-never-refused w (event.Clock t) n e = let no : _≡_ {A = ℕ} 0 1 = cc in omega arith
-never-refused w (event.Session s) n e = let no : _≡_ {A = ℕ} 0 1 = cc in omega arith
-never-refused w (event.Setup x) n e = let no : _≡_ {A = ℕ} 0 1 = cc in omega arith
-never-refused w (event.Prices x) n e = let no : _≡_ {A = ℕ} 0 1 = cc in omega arith
-never-refused w (event.Order k x) n e = let no : _≡_ {A = ℕ} 0 1 = cc in omega arith
-never-refused w (event.Cancel k x) n e = let no : _≡_ {A = ℕ} 0 1 = cc in omega arith
-never-refused w (event.Match k x) n e = let no : _≡_ {A = ℕ} 0 1 = cc in omega arith
-never-refused w (event.Rest k x) n e = let no : _≡_ {A = ℕ} 0 1 = cc in omega arith
-never-refused w (event.Figures x) n e = let no : _≡_ {A = ℕ} 0 1 = cc in omega arith
+never-refused w e = go (changeOf e)
+  where
+    go : (c : Change) (n : ℕ) → answerOf (applied w c) ≡ answer.Refused n → ⊥
+    go (setClock t) n is = let no : _≡_ {A = ℕ} 0 1 = cc in omega arith
+    go (setSession s) n is = let no : _≡_ {A = ℕ} 0 1 = cc in omega arith
+    go (setSecurity s f) n is = let no : _≡_ {A = ℕ} 0 1 = cc in omega arith
+    go (enterOrder k x) n is = let no : _≡_ {A = ℕ} 0 1 = cc in omega arith
+    go (setRows k f) n is = let no : _≡_ {A = ℕ} 0 1 = cc in omega arith
 
 -- the condition with a number is not met
 pub passed : (n : ℕ) (w : List ℕ) (e : Event) → Passed w e → met n (table w e) ≡ false
 passed n w e p = unmet n (table w e) (numbered-table w e) p
+
+-- condition 4 is not met: whom and what a change names is there. Of an event that has passed this is `passed 4`
+abbrev pub Inside : List ℕ → Change → Type 0
+Inside w c = (beyond (headerOf w .customers) (named c .0) || beyond (headerOf w .securities) (named c .1)) ≡ false
 
 module _ (w b : List ℕ) where
   -- where no condition of the whole table is met, the bytes are an event and it has passed

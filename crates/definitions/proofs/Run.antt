@@ -11,10 +11,11 @@ use Rattle.definitions.specs.Events as events
 use Rattle.definitions.specs.Desks as desks
 use Rattle.definitions.specs.Ranges as ranges
 use Rattle.definitions.specs.Rules as rules
+use Rattle.definitions.specs.Securities as securities
 use Rattle.definitions.specs.Gate as gate
 
 unfoldable pub answersOf : ℕ → ℕ → List (List ℕ) → List Answer
-unfolding legal bandOfPrice lastBand positionOf nearestTo legalDown leastOfLast lists.any lists.all lists.count lists.keep lists.firstMet lists.allBelow lists.each lists.part lists.put lists.repeat state.headerOf state.securityOf state.securityWords state.rowOf state.rowWords state.rowsOf state.rowsWords state.deskOf state.deskWords state.securityAt state.deskAt state.putSecurity state.putDesk state.stateFits state.freshMarket state.fresh sound.soundSecurity sound.soundRow sound.markedFirst sound.numbersDiffer sound.soundDesk events.lengthOf events.eventOf desks.closeUp desks.edited desks.changed desks.added desks.counted desks.ordered ranges.baseOf ranges.ceilingOf ranges.floorOf ranges.rangeOf rules.ruleS rules.ruleV rules.ruleC rules.ruleQ rules.tradesWithOwn rules.ruleW rules.reenters rules.ruleP rules.warn30 rules.warn10 rules.verdictOf gate.dailyRange gate.conditions gate.afterSetup gate.afterPrices gate.afterFigures gate.withoutProjected gate.sessionMarket gate.afterSession gate.perform gate.outcome gate.answersTo
+unfolding legal bandOfPrice lastBand positionOf nearestTo legalDown leastOfLast lists.any lists.all lists.count lists.keep lists.firstMet lists.allBelow lists.each lists.part lists.put lists.repeat state.headerOf state.securityOf state.securityWords state.rowOf state.rowWords state.rowsOf state.rowsWords state.deskOf state.deskWords state.securityAt state.deskAt state.putSecurity state.putDesk state.stateFits state.freshMarket state.fresh sound.soundSecurity sound.soundRow sound.markedFirst sound.numbersDiffer sound.soundDesk events.lengthOf events.eventOf desks.closeUp desks.edited desks.changed desks.added desks.counted desks.ordered ranges.baseOf ranges.ceilingOf ranges.floorOf ranges.rangeOf rules.ruleS rules.ruleV rules.ruleC rules.ruleQ rules.tradesWithOwn rules.ruleW rules.reenters rules.ruleP rules.warn30 rules.warn10 rules.verdictOf gate.dailyRange gate.conditions securities.afterSetup securities.afterPrices securities.afterFigures securities.withoutProjected gate.sessionMarket gate.afterSession gate.perform gate.outcome gate.answersTo
 answersOf customers securities history = gate.answersTo (λ _. true) (state.fresh customers securities) history
 
 -- the answer and the words that one event leaves, over any words

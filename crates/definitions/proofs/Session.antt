@@ -13,7 +13,8 @@ use Rattle.definitions.specs.Lists.{each}
 use Rattle.definitions.specs.State.{headerOf, securityAt, deskAt, putSecurity, putDesk}
 use Rattle.definitions.specs.Desks.{sessionRow, changed}
 use Rattle.definitions.specs.Lone.{marketWords}
-use Rattle.definitions.specs.Gate.{changeSecurity, changeDesk, withoutProjected}
+use Rattle.definitions.specs.Gate.{changeSecurity, changeDesk}
+use Rattle.definitions.specs.Securities.{withoutProjected}
 use Rattle.definitions.proofs.State as state
 use Rattle.definitions.proofs.State.{Sized}
 use Rattle.definitions.proofs.SoundDesk.{length-changed}

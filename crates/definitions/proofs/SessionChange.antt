@@ -22,7 +22,8 @@ use Rattle.definitions.specs.State.{headerOf, securityAt, deskAt}
 use Rattle.definitions.specs.Sound.{marked}
 use Rattle.definitions.specs.Events.{eventIn}
 use Rattle.definitions.specs.Desks.{freeRow, isOpen, closeUp, edited, sessionRow, changed}
-use Rattle.definitions.specs.Gate.{Outcome, wordsOf, conditions, noProjected, withoutProjected, changeDesk, sessionMarket, afterSession, perform, outcome, eventAnswer, eventWords}
+use Rattle.definitions.specs.Gate.{Outcome, wordsOf, conditions, changeDesk, sessionMarket, afterSession, perform, outcome, eventAnswer, eventWords}
+use Rattle.definitions.specs.Securities.{noProjected, withoutProjected}
 use Rattle.definitions.proofs.Tests.{either, and-parts, or-cases}
 use Rattle.definitions.proofs.HeaderWords as words
 use Rattle.definitions.proofs.HeaderWords.{withSession}

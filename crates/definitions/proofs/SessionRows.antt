@@ -2,6 +2,7 @@
 -- Assumes nothing.
 use mathlib.Core.Bool.{Bool, true, false, _&&_, _||_, not}
 use mathlib.Core.List.{List, [], _∷_, map}
+use mathlib.Core.Logic.{⊎-elim}
 use mathlib.Core.Path.{_≡_, refl, subst}
 use Prim.Native.Nat.{ℕ, zero, suc, _-_, _<_}
 use lib.Dec.{eqb}
@@ -12,21 +13,21 @@ use Rattle.definitions.specs.declared.Row.{Row}
 use Rattle.definitions.specs.declared.Desk.{Desk}
 use Rattle.definitions.specs.declared.Order.{Order}
 use Rattle.definitions.specs.declared.Answer.{Answer}
-use Rattle.definitions.specs.declared.Event.{Event}
-use Rattle.definitions.specs.declared.Event.the-variants as event
 use Rattle.definitions.specs.Codes.{closed, preOpen, opened, break, preClose, deskRows, ato, atc, mp, isAuction}
 use Rattle.definitions.specs.Lists.{all, keep, count}
 use Rattle.definitions.specs.State.{headerOf, deskAt}
 use Rattle.definitions.specs.Sound.{marked}
 use Rattle.definitions.specs.Desks.{freeRow, freshDesk, closeUp, edited, expiredRow, sessionRow, changed, rowOfOrder, added, counterOf, isRejected, counted, takesRow, ordered}
 use Rattle.definitions.specs.Rules.{View, pricesOn, bestOpposite, ruleS, verdictOf}
-use Rattle.definitions.specs.Gate.{eventWords, wordsAfter}
-use Rattle.definitions.specs.Lone.{Lone, loneView, loneVerdict, lonePerform}
+use Rattle.definitions.specs.Changes.{Change, setClock, setSession, setSecurity, enterOrder, setRows, changeOf}
+use Rattle.definitions.specs.Gate.{marketViewAt, eventWords, wordsAfter}
+use Rattle.definitions.specs.Lone.{Lone, loneVerdict, loneApplied}
 use Rattle.definitions.proofs.Tests.{either, and-parts, and-whole, or-parts, joined-parts}
 use Rattle.definitions.proofs.Rows.{all-append, all-replicate, all-keep, all-map}
-use Rattle.definitions.proofs.SoundRow.{session-frees, expired-frees, cancelled-frees, matched-frees, rest-changes}
+use Rattle.definitions.proofs.SoundRow.{session-frees, expired-frees}
 use Rattle.definitions.proofs.SoundDesk.{rows-counted, no-rules}
 use Rattle.definitions.proofs.State.{header-market}
+use Rattle.definitions.proofs.ByKind.{Keeps, kind-keeps}
 use Rattle.definitions.proofs.WellFormed.{Good, keeps}
 use Rattle.definitions.proofs.Isolation.{loneOf}
 use Rattle.definitions.proofs.Performed.{headerBy, other-header, kept-by-event, header-performed, desk-performed}
@@ -112,27 +113,24 @@ module _ (l : Lone) (given : Stands (headerOf (l .market) .session) (l .desk .ro
   left-by : (f : Row → Row) → ((r : Row) → Fits now r → Fits now (f r)) → Stands now (edited f (l .desk .rows))
   left-by f h = edited-stand now (rowInItsSession now) f h (l .desk .rows) given
 
-  stand-performed : (e : Event) → Stands (headerBy e (headerOf (l .market)) .session) (lonePerform l e .1 .desk .rows)
-  unfolding lonePerform changed ordered counted added
-  stand-performed (event.Clock t) = given
-  stand-performed (event.Session s) =
+  stand-applied : (securities : ℕ) (w : List ℕ) (c : Change) → Keeps securities w c → Stands (headerBy c (headerOf (l .market)) .session) (loneApplied l c .1 .desk .rows)
+  unfolding loneApplied changed ordered counted added
+  stand-applied securities w (setClock t) kept = given
+  stand-applied securities w (setSession s) kept =
       either (λ (x : Answer × Lone). Stands s (x .1 .desk .rows)) (eqb s now) _ _
       (λ same. rw (eqb-true s now same) given)
       (λ _. edited-stand s (rowInItsSession now) sessionRow (λ r _. session-frees (Fits s) r refl (other-fits s r)) (l .desk .rows) given)
-  stand-performed (event.Setup x) = given
-  stand-performed (event.Prices x) = given
-  stand-performed (event.Order k x) =
+  stand-applied securities w (setSecurity s f) kept = given
+  stand-applied securities w (enterOrder k x) kept =
       let v = loneVerdict l x in
       let clock = headerOf (l .market) .clock in
       let expired = left-by (expiredRow clock) (λ r e. expired-frees (Fits now) clock r refl e) in
       rw (rows-counted (counterOf v) _)
       (either (λ (d : Desk). Stands now (d .rows)) (takesRow v) _ _
-      (λ takes. set-stand now _ _ (rowOfOrder x) expired (order-fits (loneView l (x .security)) x takes))
+      (λ takes. set-stand now _ _ (rowOfOrder x) expired (order-fits (record { market = marketViewAt (l .market) (x .security); desk = l .desk }) x takes))
       (λ _. given))
-  stand-performed (event.Cancel k x) = left-by _ (λ r e. cancelled-frees (Fits now) (x .number) (headerOf (l .market) .clock) r refl e (λ _ _. e))
-  stand-performed (event.Match k x) = left-by _ (λ r e. matched-frees (Fits now) (x .number) (x .volume) r refl e (λ _ _. e))
-  stand-performed (event.Rest k x) = left-by _ (λ r e. rest-changes (Fits now) (x .number) (x .price) r e (λ _. refl))
-  stand-performed (event.Figures x) = given
+  stand-applied securities w (setRows k f) kept =
+      left-by _ (λ r fits. ⊎-elim (λ same. rw same fits) (λ is-limit. rw is-limit) (kept .type (headerOf (l .market) .clock) r))
 
 fresh-stand : (session : ℕ) (d : Desk) → d ≡ freshDesk → Stands session (d .rows)
 fresh-stand session d e = rw e (all-replicate (rowInItsSession session) deskRows freeRow refl)
@@ -145,9 +143,10 @@ module _ {customers securities : ℕ} (k : ℕ) (below : k < customers) where
       kept-by-event (λ (v : List ℕ). Stands (headerOf v .session) (deskAt v k .rows)) w given
       (λ e p.
       rw (header-performed w good e p)
-      (desk-performed w good (λ (d : Desk). Stands (headerBy e (headerOf w) .session) (d .rows)) k below e p
-      (λ other. rw (other-header customers k e (headerOf w) other) given)
-      (subst (λ (h : Header). Stands (headerBy e h .session) (lonePerform (loneOf w k) e .1 .desk .rows)) same (stand-performed (loneOf w k) (rw same given) e))))
+      (desk-performed w good (λ (d : Desk). Stands (headerBy (changeOf e) (headerOf w) .session) (d .rows)) k below e p
+      (λ other. rw (other-header customers k (changeOf e) (headerOf w) other) given)
+      (subst (λ (h : Header). Stands (headerBy (changeOf e) h .session) (loneApplied (loneOf w k) (changeOf e) .1 .desk .rows)) same
+      (stand-applied (loneOf w k) (rw same given) securities w (changeOf e) (kind-keeps securities w e p)))))
 
   stand-history : (w : List ℕ) → Good customers securities w → Stands (headerOf w .session) (deskAt w k .rows)
       → (history : List (List ℕ)) → Stands (headerOf (wordsAfter w history) .session) (deskAt (wordsAfter w history) k .rows)

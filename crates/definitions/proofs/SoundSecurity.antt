@@ -12,7 +12,7 @@ use Rattle.definitions.specs.declared.BoardPrices.{BoardPrices}
 use Rattle.definitions.specs.declared.SecurityFigures.{SecurityFigures}
 use Rattle.definitions.specs.Codes.{foreignBoard}
 use Rattle.definitions.specs.Sound.{priceOrAbsent, soundTerms, soundPrior, soundPrices, settable, zeroFigures, soundFigures, soundSecurity}
-use Rattle.definitions.specs.Gate.{afterSetup, withPrices, afterPrices, afterFigures, noProjected, withoutProjected}
+use Rattle.definitions.specs.Securities.{afterSetup, withPrices, afterPrices, afterFigures, noProjected, withoutProjected}
 use Rattle.definitions.proofs.Tests.{or-second, joined-parts, joined-whole}
 
 -- a sound security record, with a name for each part of the test

@@ -9,32 +9,32 @@ use native.Mathlib.Nat.{le-refl}
 use native.Mathlib.Omega.{arith}
 use lib.Dec.{leb, eqb, lit≤, lit<}
 use lib.ListN.{length}
-use borrow.Author.Tests.{eq-eqb, le-leb, leb-false, ltb-false, eqb-true, lt-leb, not-false}
-use Rattle.ladder.specs.Ladder.{legal}
+use borrow.Author.Tests.{eq-eqb, le-leb, leb-false, eqb-true, lt-leb}
 use Rattle.definitions.specs.declared.Header.{Header}
 use Rattle.definitions.specs.declared.Security.{Security}
 use Rattle.definitions.specs.declared.Row.{Row}
 use Rattle.definitions.specs.declared.Desk.{Desk}
 use Rattle.definitions.specs.declared.Event.{Event}
-use Rattle.definitions.specs.declared.Event.the-variants as event
 use Rattle.definitions.specs.Codes.{lastTime, preClose, deskRows}
 use Rattle.definitions.specs.Lists.{allBelow, each, put, firstMet}
 use Rattle.definitions.specs.State.{headerOf, securityAt, deskAt, putSecurity, putDesk, stateFits, sizesFit, stateSize, sessionPlace, headerSize, clockPlace}
 use Rattle.definitions.specs.Sound.{soundSecurity, soundRow, soundDesk}
-use Rattle.definitions.specs.Events.{eventIn, Named, none, one, every, customerNamed, securityNamed}
+use Rattle.definitions.specs.Events.{eventIn}
+use Rattle.definitions.specs.Changes.{Change, setClock, setSession, setSecurity, enterOrder, setRows, changeOf, Named, none, one, every, customerNamed, securityNamed}
 use Rattle.definitions.specs.Refusals.{beyond, badName}
-use Rattle.definitions.specs.Gate.{refused, wordsOf, marketViewAt, soundSecurityAt, soundDeskAt, soundNamed, recordsSound, conditions, changeDesk, sessionMarket, afterSession, perform, outcome, eventWords}
+use Rattle.definitions.specs.Gate.{refused, wordsOf, soundSecurityAt, soundDeskAt, soundNamed, recordsSound, conditions, changeDesk, sessionMarket, afterSession, applied, perform, outcome, eventWords}
 use Rattle.definitions.proofs.Tests.{and-whole, or-parts}
 use Rattle.definitions.proofs.State as state
 use Rattle.definitions.proofs.State.{Sized}
 use Rattle.definitions.proofs.HeaderWords as words
-use Rattle.definitions.proofs.Passed.{Passed, passed, none-met-event}
+use Rattle.definitions.proofs.Passed.{Passed, passed, Inside, none-met-event}
+use Rattle.definitions.proofs.ByKind.{Keeps, kind-keeps}
 use Rattle.definitions.proofs.Session.{Cleared, clears, DesksChanged, changes}
 use Rattle.definitions.proofs.Rows.{KeepsNumbers}
 use Rattle.definitions.proofs.SoundDesk as desk
 use Rattle.definitions.proofs.SoundSecurity as security
-use Rattle.definitions.proofs.SoundRow.{session-sound, session-kept, cancelled-sound, cancelled-kept, matched-sound, matched-kept, rest-sound, rest-kept}
-use Rattle.definitions.specs.Desks.{sessionRow, cancelledRow, matchedRow, restRow, changed}
+use Rattle.definitions.proofs.SoundRow.{session-sound, session-kept}
+use Rattle.definitions.specs.Desks.{sessionRow, changed}
 
 pub record Good (customers securities : ℕ) (w : List ℕ) : Type 0 where
   pub sized : Sized customers securities w
@@ -225,41 +225,20 @@ module _ {customers securities : ℕ} (w : List ℕ) (good : Good customers secu
       (desk.sound-changed securities (headerOf w .clock) f sound kept (deskAt w k) (good .desks-sound k below))
 
   -- what an event that meets no condition does keeps a state well formed
+  applied-good : (c : Change) → Inside w c → Keeps securities w c → Good customers securities (wordsOf w (applied w c))
+  applied-good (setClock t) inside kept = good-clock t (kept .0) (kept .1)
+  applied-good (setSession s) inside kept = good-session s kept
+  applied-good (setSecurity s f) inside kept =
+      let below = below-securities s inside in
+      good-put-security s _ below (kept (good .securities-sound s below))
+  applied-good (enterOrder k x) inside kept =
+      let below = order-names k (x .security) inside in
+      good-put-desk k _ (below .0) (desk.length-ordered _ (headerOf w .clock) x (deskAt w k) ∙ state.length-desk-rows w k) (kept (below .1) (good .desks-sound k (below .0)))
+  applied-good (setRows k f) inside kept = good-changed k inside (f (headerOf w .clock)) (kept .sound) (kept .numbers)
+
   pub performs : (e : Event) → Passed w e → Good customers securities (wordsOf w (perform w e))
   unfolding perform
-  performs (event.Clock t) p =
-      good-clock t (ltb-false lastTime t (passed 5 w (event.Clock t) p)) (ltb-false t (headerOf w .clock) (passed 7 w (event.Clock t) p))
-  performs (event.Session s) p = good-session s (ltb-false preClose s (passed 5 w (event.Session s) p))
-  performs (event.Setup x) p =
-      let at = event.Setup x in
-      let below = below-securities (x .security) (passed 4 w at p) in
-      good-put-security (x .security) _ below (security.sound-setup x _ (good .securities-sound (x .security) below) (passed 5 w at p) (passed 6 w at p))
-  performs (event.Prices x) p =
-      let at = event.Prices x in
-      let below = below-securities (x .security) (passed 4 w at p) in
-      good-put-security (x .security) _ below (security.sound-prices x _ (good .securities-sound (x .security) below) (passed 6 w at p))
-  performs (event.Order k x) p =
-      let at = event.Order k x in
-      let below = order-names k (x .security) (passed 4 w at p) in
-      let d = deskAt w k in
-      let rows = state.length-desk-rows w k in
-      let within : leb securities (x .security) ≡ false = lt-leb securities (x .security) (below .1) in
-      good-put-desk k _ (below .0) (desk.length-ordered _ (headerOf w .clock) x d ∙ rows)
-      (desk.sound-ordered securities (marketViewAt w (x .security)) d x rows (good .desks-sound k (below .0)) within (passed 5 w at p) (passed 6 w at p) (passed 9 w at p) (passed 12 w at p))
-  performs (event.Cancel k x) p =
-      good-changed k (passed 4 w (event.Cancel k x) p) (cancelledRow (x .number) (headerOf w .clock)) (cancelled-sound securities (headerOf w .clock) (x .number))
-      (cancelled-kept (x .number) (headerOf w .clock))
-  performs (event.Match k x) p =
-      good-changed k (passed 4 w (event.Match k x) p) (matchedRow (x .number) (x .volume)) (matched-sound securities (headerOf w .clock) (x .number) (x .volume))
-      (matched-kept (x .number) (x .volume))
-  performs (event.Rest k x) p =
-      good-changed k (passed 4 w (event.Rest k x) p) (restRow (x .number) (x .price))
-      (rest-sound securities (headerOf w .clock) (x .number) (x .price) (not-false (legal (x .price)) (passed 6 w (event.Rest k x) p)))
-      (rest-kept (x .number) (x .price))
-  performs (event.Figures x) p =
-      let at = event.Figures x in
-      let below = below-securities (x .security) (passed 4 w at p) in
-      good-put-security (x .security) _ below (security.sound-figures x _ (good .securities-sound (x .security) below) (passed 13 w at p))
+  performs e p = applied-good (changeOf e) (passed 4 w e p) (kind-keeps securities w e p)
 
   -- each event keeps a state well formed
   pub keeps : (b : List ℕ) → Good customers securities (eventWords w b)

@@ -1,12 +1,11 @@
--- Paper 01, "Events": bytes to one event or a refusal, what an event names, and to whom it belongs.
+-- Paper 01, "Events": bytes to one event or a refusal.
 use mathlib.Core.Bool.{Bool, cond, not}
 use mathlib.Core.List.{List, [], _∷_}
 use Prim.Native.Nat.{ℕ, _+_, _-_, _*_}
-use lib.Dec.{ltb, eqb}
+use lib.Dec.{eqb}
 use lib.ListN.{length, getD}
 use Rattle.definitions.specs.declared.Event.{Event}
 use Rattle.definitions.specs.declared.Event.the-variants as event
-use Rattle.definitions.specs.Lists.{firstMet}
 use Rattle.definitions.specs.State.{termsAt, figures}
 
 -- "little-endian": the number of two and of four bytes from a place on
@@ -97,41 +96,3 @@ bytesConditions b =
     ∷ (3, eqb (lengthOf (getD b 0 0)) 0)
     ∷ (2, not (eqb (length b) (lengthOf (getD b 0 0))))
     ∷ []
-
--- the customer and the security that an event names: none, one by its number, or every one, for kind 2 "reads all"
-pub data Named : Type 0 where
-  none : Named
-  one : ℕ → Named
-  every : Named
-
-abbrev pub named : Event → Named × Named
-named (event.Clock t) = (none, none)
-named (event.Session s) = (every, every)
-named (event.Setup x) = (none, one (x .security))
-named (event.Prices x) = (none, one (x .security))
-named (event.Order k x) = (one k, one (x .security))
-named (event.Cancel k x) = (one k, none)
-named (event.Match k x) = (one k, none)
-named (event.Rest k x) = (one k, none)
-named (event.Figures x) = (none, one (x .security))
-
-abbrev pub customerNamed : Event → Named
-customerNamed e = named e .0
-
-abbrev pub securityNamed : Event → Named
-securityNamed e = named e .1
-
--- "Kinds 5 to 7 belong to the customer they name; 1 to 4, and any later kind that names no customer, are market events. An event that meets
--- condition 2 or 3 below, or one with a customer of C or more, belongs to nobody." Paper 02, 1, of kind 8: "The event belongs to its customer."
-pub data Owner : Type 0 where
-  market : Owner
-  customer : ℕ → Owner
-  nobody : Owner
-
-abbrev pub ownerNamed : ℕ → Named → Owner
-ownerNamed customers none = market
-ownerNamed customers (one k) = cond (ltb k customers) (customer k) nobody
-ownerNamed customers every = market
-
-unfoldable pub ownerOf : ℕ → List ℕ → Owner
-ownerOf customers b = cond (eqb (firstMet (bytesConditions b)) 0) (ownerNamed customers (customerNamed (eventIn b))) nobody

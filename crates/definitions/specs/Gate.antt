@@ -4,30 +4,23 @@ use mathlib.Core.List.{List, [], _∷_, _++_}
 use Prim.Native.Nat.{ℕ}
 use lib.Dec.{ltb, eqb}
 use lib.ListN.{length}
-use Rattle.definitions.specs.declared.Terms.{Terms}
-use Rattle.definitions.specs.declared.PriorPrices.{PriorPrices}
-use Rattle.definitions.specs.declared.Prices.{Prices}
-use Rattle.definitions.specs.declared.Figures.{Figures}
 use Rattle.definitions.specs.declared.Security.{Security}
 use Rattle.definitions.specs.declared.DailyRange.{DailyRange}
 use Rattle.definitions.specs.declared.DailyRange.the-variants as daily
 use Rattle.definitions.specs.declared.Desk.{Desk}
 use Rattle.definitions.specs.declared.MarketView.{MarketView}
-use Rattle.definitions.specs.declared.Setup.{Setup}
-use Rattle.definitions.specs.declared.BoardPrices.{BoardPrices}
-use Rattle.definitions.specs.declared.SecurityFigures.{SecurityFigures}
 use Rattle.definitions.specs.declared.Order.{Order}
 use Rattle.definitions.specs.declared.Event.{Event}
-use Rattle.definitions.specs.declared.Event.the-variants as event
 use Rattle.definitions.specs.declared.Verdict.{Verdict}
 use Rattle.definitions.specs.declared.Answer.{Answer}
 use Rattle.definitions.specs.declared.Answer.the-variants as answer
-use Rattle.definitions.specs.Codes.{foreignBoard}
 use Rattle.definitions.specs.Lists.{allBelow, each, put, firstMet}
-use Rattle.definitions.specs.State.{noFigures, headerOf, securityAt, deskAt, putSecurity, putDesk, stateFits, sizesFit, stateSize, fresh, clockPlace, sessionPlace}
+use Rattle.definitions.specs.State.{headerOf, securityAt, deskAt, putSecurity, putDesk, stateFits, sizesFit, stateSize, fresh, clockPlace, sessionPlace}
 use Rattle.definitions.specs.Sound.{soundSecurity, soundDesk}
-use Rattle.definitions.specs.Events.{eventIn, bytesConditions, Named, none, one, every, customerNamed, securityNamed}
-use Rattle.definitions.specs.Desks.{sessionRow, cancelledRow, matchedRow, restRow, changed, ordered}
+use Rattle.definitions.specs.Events.{eventIn, bytesConditions}
+use Rattle.definitions.specs.Desks.{freshDesk, sessionRow, changed, ordered}
+use Rattle.definitions.specs.Securities.{withoutProjected}
+use Rattle.definitions.specs.Changes.{Change, setClock, setSession, setSecurity, enterOrder, setRows, changeOf, Named, none, one, every, ifOne, customerNamed, securityNamed}
 use Rattle.definitions.specs.Ranges.{hasRange, rangeOf}
 use Rattle.definitions.specs.Rules.{View, verdictOf}
 use Rattle.definitions.specs.Refusals.{eventConditions}
@@ -56,14 +49,12 @@ marketViewAt w s = record { session = headerOf w .session; clock = headerOf w .c
 abbrev pub viewAt : List ℕ → ℕ → ℕ → View
 viewAt w s k = record { market = marketViewAt w s; desk = deskAt w k }
 
--- 0 where no one is named: no condition and no rule asks for that record then
-abbrev pub numberOf : Named → ℕ
-numberOf none = 0
-numberOf (one i) = i
-numberOf every = 0
+-- where the desk of a customer is found by its number; no condition asks for a record that is not named
+abbrev pub viewBy : (ℕ → Desk) → List ℕ → Event → View
+viewBy desks w e = record { market = marketViewAt w (ifOne 0 (λ s. s) (securityNamed e)); desk = ifOne freshDesk desks (customerNamed e) }
 
 abbrev pub viewOf : List ℕ → Event → View
-viewOf w e = viewAt w (numberOf (securityNamed e)) (numberOf (customerNamed e))
+viewOf w = viewBy (deskAt w) w
 
 -- 8: "a record that this kind reads is not sound: 2 reads all; 3 and 4 the security; 5 the security and the desk; 6 and 7 the desk", and so 8 and 9: what it names
 abbrev pub soundSecurityAt : List ℕ → ℕ → Bool
@@ -104,30 +95,6 @@ abbrev pub ceilingNumber : DailyRange → ℕ
 ceilingNumber (daily.Given r) = r .ceiling
 ceilingNumber daily.None = 0
 
-abbrev pub security : Terms → PriorPrices → Prices → Prices → Figures → Security
-security terms prior main foreign figures = record { terms = terms; prior = prior; main = main; foreign = foreign; figures = figures }
-
--- "Kinds 3 and 4 replace the fields they name."; paper 02, 3, of kind 9's figures: "kind 3 clears it"
-unfoldable pub afterSetup : Setup → Security → Security
-afterSetup x s = security (x .terms) (x .prior) (s .main) (s .foreign) noFigures
-
-abbrev pub withPrices : Prices → Prices → Security → Security
-withPrices main foreign s = security (s .terms) (s .prior) main foreign (s .figures)
-
-unfoldable pub afterPrices : BoardPrices → Security → Security
-afterPrices x s =
-    cond (eqb (x .board) foreignBoard) (withPrices (s .main) (x .prices) s) (withPrices (x .prices) (s .foreign) s)
-
-unfoldable pub afterFigures : SecurityFigures → Security → Security
-afterFigures x s = security (s .terms) (s .prior) (s .main) (s .foreign) (x .figures)
-
--- "makes every projected price absent"
-abbrev pub noProjected : Prices → Prices
-noProjected p = record { projected = 0; «last_sale» = p .«last_sale»; bid = p .bid; offer = p .offer }
-
-unfoldable pub withoutProjected : Security → Security
-withoutProjected s = withPrices (noProjected (s .main)) (noProjected (s .foreign)) s
-
 -- a record of a state, changed where it stands
 abbrev pub changeSecurity : (Security → Security) → ℕ → List ℕ → List ℕ
 changeSecurity f s w = putSecurity w s (f (securityAt w s))
@@ -153,16 +120,15 @@ abbrev pub orderedAt : List ℕ → ℕ → Order → Desk
 orderedAt w k o = ordered (verdictAt w k o) (headerOf w .clock) o (deskAt w k)
 
 -- what an event that meets no condition does
+abbrev pub applied : List ℕ → Change → Outcome
+applied w (setClock t) = done answer.Ok (put w clockPlace (t ∷ []))
+applied w (setSession s) = done answer.Ok (afterSession s w)
+applied w (setSecurity s f) = done answer.Ok (changeSecurity f s w)
+applied w (enterOrder k x) = done (answer.Verdict (verdictAt w k x)) (putDesk w k (orderedAt w k x))
+applied w (setRows k f) = done answer.Ok (changeDesk (changed (f (headerOf w .clock))) k w)
+
 unfoldable pub perform : List ℕ → Event → Outcome
-perform w (event.Clock t) = done answer.Ok (put w clockPlace (t ∷ []))
-perform w (event.Session s) = done answer.Ok (afterSession s w)
-perform w (event.Setup x) = done answer.Ok (changeSecurity (afterSetup x) (x .security) w)
-perform w (event.Prices x) = done answer.Ok (changeSecurity (afterPrices x) (x .security) w)
-perform w (event.Order k x) = done (answer.Verdict (verdictAt w k x)) (putDesk w k (orderedAt w k x))
-perform w (event.Cancel k x) = done answer.Ok (changeDesk (changed (cancelledRow (x .number) (headerOf w .clock))) k w)
-perform w (event.Match k x) = done answer.Ok (changeDesk (changed (matchedRow (x .number) (x .volume))) k w)
-perform w (event.Rest k x) = done answer.Ok (changeDesk (changed (restRow (x .number) (x .price))) k w)
-perform w (event.Figures x) = done answer.Ok (changeSecurity (afterFigures x) (x .security) w)
+perform w e = applied w (changeOf e)
 
 abbrev pub refusedOr : ℕ → Outcome → Outcome
 refusedOr n o = cond (eqb n 0) o (refused n)

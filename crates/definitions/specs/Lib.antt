@@ -6,6 +6,8 @@ pub mod State
 pub mod Sound
 pub mod Events
 pub mod Desks
+pub mod Securities
+pub mod Changes
 pub mod Ranges
 pub mod Rules
 pub mod Refusals

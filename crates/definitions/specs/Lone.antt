@@ -6,18 +6,17 @@ use lib.Dec.{eqb}
 use lib.ListN.{take}
 use Rattle.definitions.specs.declared.Desk.{Desk}
 use Rattle.definitions.specs.declared.Order.{Order}
-use Rattle.definitions.specs.declared.Event.{Event}
-use Rattle.definitions.specs.declared.Event.the-variants as event
 use Rattle.definitions.specs.declared.Verdict.{Verdict}
 use Rattle.definitions.specs.declared.Answer.{Answer}
 use Rattle.definitions.specs.declared.Answer.the-variants as answer
 use Rattle.definitions.specs.Lists.{part, put, firstMet}
 use Rattle.definitions.specs.State.{clockPlace, headerOf, freshMarket, securityPlace, deskPlace, deskSize}
-use Rattle.definitions.specs.Events.{eventIn, bytesConditions, securityNamed, Owner, market, customer, nobody, ownerOf}
-use Rattle.definitions.specs.Desks.{freshDesk, sessionRow, cancelledRow, matchedRow, restRow, changed, ordered}
-use Rattle.definitions.specs.Rules.{View, verdictOf}
+use Rattle.definitions.specs.Events.{eventIn, bytesConditions}
+use Rattle.definitions.specs.Desks.{freshDesk, sessionRow, changed, ordered}
+use Rattle.definitions.specs.Changes.{Change, setClock, setSession, setSecurity, enterOrder, setRows, changeOf, Owner, market, customer, nobody, ownerOf}
+use Rattle.definitions.specs.Rules.{verdictOf}
 use Rattle.definitions.specs.Refusals.{eventConditions}
-use Rattle.definitions.specs.Gate.{marketViewAt, numberOf, changeSecurity, afterSetup, afterPrices, afterFigures, sessionMarket}
+use Rattle.definitions.specs.Gate.{marketViewAt, viewBy, changeSecurity, sessionMarket}
 
 -- "It holds the market's words (header and security records) and one desk"
 pub record Lone : Type 0 where
@@ -28,48 +27,37 @@ pub record Lone : Type 0 where
 abbrev pub loneFresh : ℕ → ℕ → Lone
 loneFresh customers securities = record { market = freshMarket customers securities; desk = freshDesk }
 
-abbrev pub loneView : Lone → ℕ → View
-loneView l s = record { market = marketViewAt (l .market) s; desk = l .desk }
-
 -- the table above, without 1 and 8, which "never arise here"
 unfoldable pub loneConditions : Lone → List ℕ → List (ℕ × Bool)
 loneConditions l b =
-    bytesConditions b ++ eventConditions (headerOf (l .market)) [] (loneView l (numberOf (securityNamed (eventIn b)))) (eventIn b)
+    bytesConditions b ++ eventConditions (headerOf (l .market)) [] (viewBy (λ k. l .desk) (l .market) (eventIn b)) (eventIn b)
 
 -- an answer, and what the lone run holds after it
 abbrev pub loneDone : Answer → List ℕ → Desk → Answer × Lone
 loneDone a w d = (a, record { market = w; desk = d })
 
 abbrev pub loneVerdict : Lone → Order → Verdict
-loneVerdict l o = verdictOf (loneView l (o .security)) o
+loneVerdict l o = verdictOf (record { market = marketViewAt (l .market) (o .security); desk = l .desk }) o
 
--- "Kind 2 with another session sets it, makes each projected price absent and removes the desk's ATO and ATC rows." Rows of type 3
--- go as ATO rows do (paper 02, 1).
-abbrev pub loneSession : Lone → ℕ → Answer × Lone
-loneSession l s =
+-- "Kind 1 sets the clock. Kind 2 with another session sets it, makes each projected price absent and removes the desk's ATO and ATC rows." and, since
+-- paper 02, 1, those of type 3. "Kinds 3 and 4 set the fields they name. The answer is ok. Kind 5 gets the first verdict that applies; .. Kind 6 .. Kind 7 ..
+-- The answer is ok." "Kinds and rules of later requests hold here too": kinds 8 and 9.
+unfoldable pub loneApplied : Lone → Change → Answer × Lone
+loneApplied l (setClock t) = loneDone answer.Ok (put (l .market) clockPlace (t ∷ [])) (l .desk)
+loneApplied l (setSession s) =
     cond (eqb s (headerOf (l .market) .session)) (loneDone answer.Ok (l .market) (l .desk))
     (loneDone answer.Ok (sessionMarket s (l .market)) (changed sessionRow (l .desk)))
-
--- "Kind 1 sets the clock. .. Kinds 3 and 4 set the fields they name. The answer is ok. Kind 5 gets the first verdict that applies; .. Kind 6 ..
--- Kind 7 .. The answer is ok." "Kinds and rules of later requests hold here too": kinds 8 and 9.
-unfoldable pub lonePerform : Lone → Event → Answer × Lone
-lonePerform l (event.Clock t) = loneDone answer.Ok (put (l .market) clockPlace (t ∷ [])) (l .desk)
-lonePerform l (event.Session s) = loneSession l s
-lonePerform l (event.Setup x) = loneDone answer.Ok (changeSecurity (afterSetup x) (x .security) (l .market)) (l .desk)
-lonePerform l (event.Prices x) = loneDone answer.Ok (changeSecurity (afterPrices x) (x .security) (l .market)) (l .desk)
-lonePerform l (event.Order k x) =
+loneApplied l (setSecurity s f) = loneDone answer.Ok (changeSecurity f s (l .market)) (l .desk)
+loneApplied l (enterOrder k x) =
     loneDone (answer.Verdict (loneVerdict l x)) (l .market) (ordered (loneVerdict l x) (headerOf (l .market) .clock) x (l .desk))
-lonePerform l (event.Cancel k x) = loneDone answer.Ok (l .market) (changed (cancelledRow (x .number) (headerOf (l .market) .clock)) (l .desk))
-lonePerform l (event.Match k x) = loneDone answer.Ok (l .market) (changed (matchedRow (x .number) (x .volume)) (l .desk))
-lonePerform l (event.Rest k x) = loneDone answer.Ok (l .market) (changed (restRow (x .number) (x .price)) (l .desk))
-lonePerform l (event.Figures x) = loneDone answer.Ok (changeSecurity (afterFigures x) (x .security) (l .market)) (l .desk)
+loneApplied l (setRows k f) = loneDone answer.Ok (l .market) (changed (f (headerOf (l .market) .clock)) (l .desk))
 
 abbrev pub loneRefusedOr : ℕ → Lone → (Answer × Lone) → Answer × Lone
 loneRefusedOr n l o = cond (eqb n 0) o (loneDone (answer.Refused n) (l .market) (l .desk))
 
 -- "An event that meets conditions of the table above gets the number found first and changes nothing .. Else: .."
 unfoldable pub loneOutcome : Lone → List ℕ → Answer × Lone
-loneOutcome l b = loneRefusedOr (firstMet (loneConditions l b)) l (lonePerform l (eventIn b))
+loneOutcome l b = loneRefusedOr (firstMet (loneConditions l b)) l (loneApplied l (changeOf (eventIn b)))
 
 unfoldable pub loneAfter : Lone → List (List ℕ) → Lone
 loneAfter l [] = l

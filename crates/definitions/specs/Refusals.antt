@@ -15,15 +15,13 @@ use Rattle.definitions.specs.declared.Event.the-variants as event
 use Rattle.definitions.specs.Codes.{preClose, foreignBoard, sell, mp, dma, lastTime, deskRows}
 use Rattle.definitions.specs.Lists.{any, count}
 use Rattle.definitions.specs.Sound.{soundTerms, soundPrior, soundPrices, settable, pricedAs}
-use Rattle.definitions.specs.Events.{Named, none, one, every, customerNamed, securityNamed}
+use Rattle.definitions.specs.Changes.{Named, ifOne, customerNamed, securityNamed}
 use Rattle.definitions.specs.Desks.{openOrInMinute, openWith, openMpWith, takesRow}
 use Rattle.definitions.specs.Rules.{View, verdictOf}
 
 -- 4: "customer at least C, or security at least S"
 abbrev pub beyond : ℕ → Named → Bool
-beyond n none = false
-beyond n (one i) = leb n i
-beyond n every = false
+beyond n = ifOne false (leb n)
 
 abbrev pub badName : Header → Event → Bool
 badName h e = beyond (h .customers) (customerNamed e) || beyond (h .securities) (securityNamed e)

@@ -11,7 +11,7 @@ use Rattle.definitions.specs.declared.Answer.{Answer}
 use Rattle.definitions.specs.declared.Answer.the-variants as answer
 use Rattle.definitions.specs.Lists.{firstMet}
 use Rattle.definitions.specs.State.{headerOf, headerSize, securitySize, deskSize, securityPlace, deskPlace, deskAt}
-use Rattle.definitions.specs.Events.{Named, one, customerNamed, securityNamed}
+use Rattle.definitions.specs.Changes.{Named, one, customerNamed, securityNamed}
 use Rattle.definitions.specs.Refusals.{beyond, badName, earlyConditions, laterConditions}
 use Rattle.definitions.specs.Gate.{refused, resultOf, soundSecurityAt, soundDeskAt, soundNamed, recordsSound, viewOf, perform, refusedOr}
 use Rattle.definitions.specs.Desks.{closeUp}

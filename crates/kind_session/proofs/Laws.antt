@@ -16,7 +16,8 @@ use Rattle.definitions.specs.declared.Answer.the-variants as answer
 use Rattle.definitions.specs.Lists.{each, put}
 use Rattle.definitions.specs.State.{securitySize, deskSize, sessionPlace, securityPlace, deskPlace, stateSize, headerOf, stateFits}
 use Rattle.definitions.specs.Desks.{changed, sessionRow}
-use Rattle.definitions.specs.Gate.{resultOf, changeSecurity, withoutProjected, changeDesk, afterSession, sessionMarket, perform}
+use Rattle.definitions.specs.Gate.{resultOf, changeSecurity, changeDesk, afterSession, sessionMarket, perform}
+use Rattle.definitions.specs.Securities.{withoutProjected}
 use Rattle.definitions.proofs.Lists.{each-next}
 use Rattle.definitions.proofs.State.{Sized, fits-sized}
 use Rattle.definitions.proofs.HeaderWords as words

@@ -15,7 +15,7 @@ use Rattle.definitions.specs.declared.Answer.the-variants as answer
 use Rattle.definitions.specs.Codes.{deskRows, openMark}
 use Rattle.definitions.specs.Lists.{any}
 use Rattle.definitions.specs.State.{deskAt, putDesk}
-use Rattle.definitions.specs.Events.{one, customerNamed}
+use Rattle.definitions.specs.Changes.{one, customerNamed}
 use Rattle.definitions.specs.Sound.{marked, numbered}
 use Rattle.definitions.specs.Desks.{freeRow, isOpen, openOrInMinute, openWith, closeUp, withRows, changed}
 use Rattle.definitions.specs.Gate.{done, resultOf, recordsSound, changeDesk, perform}

@@ -1,6 +1,6 @@
 // A security taken out of the words: the prices of one of its boards, what becomes of it, and when it is sound.
 ghost use mathlib.Core.Path.{_≡_};
-ghost use Rattle.definitions.specs.Gate.{afterFigures, afterPrices, afterSetup, noProjected, security, withPrices, withoutProjected};
+ghost use Rattle.definitions.specs.Securities.{afterFigures, afterPrices, afterSetup, noProjected, security, withPrices, withoutProjected};
 ghost use Rattle.definitions.specs.Rules.{pricesOn};
 ghost use Rattle.definitions.specs.Sound.{priceOrAbsent, settable, soundFigures, soundPrices, soundPrior, soundSecurity, soundTerms};
 use definitions::BoardPrices;

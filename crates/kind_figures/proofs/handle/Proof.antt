@@ -11,7 +11,8 @@ use Rattle.definitions.specs.declared.Event.the-variants as event
 use Rattle.definitions.specs.Lists.{firstMet}
 use Rattle.definitions.specs.State.{securityAt}
 use Rattle.definitions.specs.Sound.{settable}
-use Rattle.definitions.specs.Gate.{afterFigures, perform}
+use Rattle.definitions.specs.Gate.{perform}
+use Rattle.definitions.specs.Securities.{afterFigures}
 use Rattle.kind_contract.specs.First.{laterRefusal}
 use Rattle.kind_contract.proofs.Laws.{later-refused, security-fits}
 use Rattle.kind_contract.proofs.Done.{security-done}

@@ -6,7 +6,7 @@ use native.Mathlib.Omega.{arith}
 use borrow.Author.Needs.{needs}
 use Rattle.definitions.specs.declared.Header.{Header}
 use Rattle.definitions.specs.State.{headerOf, putSecurity}
-use Rattle.definitions.specs.Gate.{withoutProjected}
+use Rattle.definitions.specs.Securities.{withoutProjected}
 use Rattle.state.proofs.Fits.{header-words}
 use Rattle.kind_session.proofs.Laws.{SoFar, clearedAt, so-far-start, so-far-next, so-far-end, cleared-room, cleared-length}
 use Rattle.kind_session.proofs.clear_projected.Statement.{statement}

@@ -1,6 +1,6 @@
 -- `securities::after_figures` meets its contract: it is the definition, field by field.
 -- Assumes nothing.
-use Rattle.definitions.specs.Gate.{afterFigures}
+use Rattle.definitions.specs.Securities.{afterFigures}
 use Rattle.securities.proofs.after_figures.Statement.{statement}
 use Rattle.securities.proofs.after_figures.Tie as tie
 

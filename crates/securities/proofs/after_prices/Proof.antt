@@ -1,7 +1,7 @@
 -- `securities::after_prices` meets its contract: the board that is named takes the prices, the other stays.
 -- Assumes nothing.
 use borrow.Author.Tests.{eq-eqb, ne-eqb}
-use Rattle.definitions.specs.Gate.{afterPrices}
+use Rattle.definitions.specs.Securities.{afterPrices}
 use Rattle.securities.proofs.after_prices.Statement.{statement}
 use Rattle.securities.proofs.after_prices.Tie as tie
 

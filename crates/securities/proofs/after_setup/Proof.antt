@@ -1,6 +1,6 @@
 -- `securities::after_setup` meets its contract: it is the definition, field by field.
 -- Assumes nothing.
-use Rattle.definitions.specs.Gate.{afterSetup}
+use Rattle.definitions.specs.Securities.{afterSetup}
 use Rattle.securities.proofs.after_setup.Statement.{statement}
 use Rattle.securities.proofs.after_setup.Tie as tie
 

@@ -1,6 +1,6 @@
 -- `securities::without_projected` meets its contract: both boards without their projected price.
 -- Assumes nothing.
-use Rattle.definitions.specs.Gate.{withoutProjected}
+use Rattle.definitions.specs.Securities.{withoutProjected}
 use Rattle.securities.proofs.without_projected.Statement.{statement}
 use Rattle.securities.proofs.without_projected.Tie as tie
 
