@@ -1,10 +1,11 @@
 -- To whom an event belongs, said a second time, of its bytes: by its kind and by the two bytes in which kinds 5 to 8 name their customer.
 -- Assumes nothing.
 use mathlib.Core.Bool.{Bool, true, false, cond, _&&_}
-use mathlib.Core.List.{List}
+use mathlib.Core.List.{List, [], _∷_}
 use mathlib.Core.Logic.{_↔_, _⊎_, inl, inr, ⊎-elim}
 use mathlib.Core.Path.{_≡_, refl, ap, sym, subst, _∙_}
-use Prim.Native.Nat.{ℕ, zero, suc, _-_, _≤_, _<_}
+use Prim.Native.Nat.{ℕ, zero, suc, _+_, _-_, _≤_, _<_}
+use native.Mathlib.Nat.{not-suc-le-zero}
 use native.Mathlib.Omega.{arith}
 use lib.Dec.{leb, ltb, eqb}
 use lib.ListN.{length, getD, List·getD-eq-default}
@@ -52,17 +53,17 @@ pub past-kinds : (k : ℕ) → length kinds < k → lengthOf k ≡ 0
 unfolding lengthOf
 past-kinds k more = rw (ne-eqb k 0 (λ e. omega arith)) (ap (λ (x : ℕ × (List ℕ → Event)). x .0) (List·getD-eq-default kinds (0, figuresOf) {n = k - 1} (omega arith)))
 
--- a kind of the table is 1 to 9, and so is the kind of an event that is read
-known-kind : (n : ℕ) → (lengthOf n ≡ 0 → ⊥) → (1 ≤ n) × (n ≤ 9)
+-- a kind of the table is 1 to its last, and so is the kind of an event that is read
+known-kind : (n : ℕ) → (lengthOf n ≡ 0 → ⊥) → (1 ≤ n) × (n ≤ length kinds)
 unfolding lengthOf
 known-kind zero known = absurd (known refl)
-known-kind (suc n) known = (omega arith, go (ltb 9 (suc n)) refl)
+known-kind (suc n) known = (omega arith, go (ltb (length kinds) (suc n)) refl)
   where
-    go : (t : Bool) → ltb 9 (suc n) ≡ t → suc n ≤ 9
-    go true past = absurd (known (past-kinds (suc n) (ltb-true 9 (suc n) past)))
-    go false within = ltb-false 9 (suc n) within
+    go : (t : Bool) → ltb (length kinds) (suc n) ≡ t → suc n ≤ length kinds
+    go true past = absurd (known (past-kinds (suc n) (ltb-true (length kinds) (suc n) past)))
+    go false within = ltb-false (length kinds) (suc n) within
 
-read-kind : (b : List ℕ) → Read b → (1 ≤ kindOf b) × (kindOf b ≤ 9)
+read-kind : (b : List ℕ) → Read b → (1 ≤ kindOf b) × (kindOf b ≤ length kinds)
 read-kind b read = known-kind (kindOf b) (read-known b read)
 
 -- whether a kind names its customer
@@ -75,7 +76,7 @@ named-customer n e = let p = and-parts (leb 5 n) (leb n 8) e in (leb-true 5 n (p
 customer-named : (n : ℕ) → OfCustomer n → named n ≡ true
 customer-named n h = rw (le-leb 5 n (h .0), le-leb n 8 (h .1))
 
-unnamed-market : (n : ℕ) → 1 ≤ n → n ≤ 9 → named n ≡ false → OfMarket n
+unnamed-market : (n : ℕ) → 1 ≤ n → n ≤ length kinds → named n ≡ false → OfMarket n
 unnamed-market n first last = go (leb 5 n) refl
   where
     go : (t : Bool) → leb 5 n ≡ t → (t && leb n 8) ≡ false → OfMarket n
@@ -89,20 +90,28 @@ market-unnamed n = ⊎-elim (λ early. rw (lt-leb 5 n (omega (arith, early .1)))
 abbrev byKind : ℕ → ℕ → ℕ → Owner
 byKind customers kind k = cond (named kind) (cond (ltb k customers) (customer k) nobody) market
 
-owner-of-kind : (customers : ℕ) (b : List ℕ) (n : ℕ) → (lengthOf n ≡ 0 → ⊥) → ownerNamed customers (customerNamed (eventOf n b)) ≡ byKind customers n (two b 1)
-unfolding eventOf lengthOf
-owner-of-kind customers b zero known = absurd (known refl)
-owner-of-kind customers b (suc zero) known = refl
-owner-of-kind customers b (suc (suc zero)) known = refl
-owner-of-kind customers b (suc (suc (suc zero))) known = refl
-owner-of-kind customers b (suc (suc (suc (suc zero)))) known = refl
-owner-of-kind customers b (suc (suc (suc (suc (suc zero))))) known = refl
-owner-of-kind customers b (suc (suc (suc (suc (suc (suc zero)))))) known = refl
-owner-of-kind customers b (suc (suc (suc (suc (suc (suc (suc zero))))))) known = refl
-owner-of-kind customers b (suc (suc (suc (suc (suc (suc (suc (suc zero)))))))) known = refl
-owner-of-kind customers b (suc (suc (suc (suc (suc (suc (suc (suc (suc zero))))))))) known = refl
-owner-of-kind customers b (suc (suc (suc (suc (suc (suc (suc (suc (suc (suc n)))))))))) known =
-    absurd (known (past-kinds (suc (suc (suc (suc (suc (suc (suc (suc (suc (suc n)))))))))) (omega arith)))
+module _ (customers : ℕ) (b : List ℕ) where
+  -- the kinds of a part of the table that begins with kind n
+  abbrev Owners : ℕ → List (ℕ × (List ℕ → Event)) → Type 0
+  Owners n [] = Unit
+  Owners n (x ∷ xs) = (ownerNamed customers (customerNamed (x .1 b)) ≡ byKind customers n (two b 1)) × Owners (suc n) xs
+
+  kinds-owned : Owners 1 kinds
+  kinds-owned = (refl, (refl, (refl, (refl, (refl, (refl, (refl, (refl, (refl, tt)))))))))
+
+  owner-at : (n i k : ℕ) → k ≡ n + i → (xs : List (ℕ × (List ℕ → Event))) (other : ℕ × (List ℕ → Event)) → Owners n xs → i < length xs
+      → ownerNamed customers (customerNamed (getD xs i other .1 b)) ≡ byKind customers k (two b 1)
+  owner-at n i k is [] other owned inside = absurd (not-suc-le-zero inside)
+  owner-at n zero k is (x ∷ xs) other owned inside =
+      let same : n ≡ k = omega arith in
+      owned .0 ∙ ap (λ (m : ℕ). byKind customers m (two b 1)) same
+  owner-at n (suc i) k is (x ∷ xs) other owned inside = owner-at (suc n) i k (omega arith) xs other (owned .1) (omega arith)
+
+  owner-of-kind : (n : ℕ) → (lengthOf n ≡ 0 → ⊥) → ownerNamed customers (customerNamed (eventOf n b)) ≡ byKind customers n (two b 1)
+  unfolding eventOf
+  owner-of-kind n known =
+      let inside = known-kind n known in
+      owner-at 1 (n - 1) n (omega (arith, inside .0)) kinds (0, figuresOf) kinds-owned (omega (arith, inside .0, inside .1))
 
 -- which of the four an owner comes from
 data Owns (customers : ℕ) (b : List ℕ) : Owner → Type 0 where

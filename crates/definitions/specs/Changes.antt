@@ -40,13 +40,13 @@ pub data Named : Type 0 where
   one : ℕ → Named
   every : Named
 
--- of the one that is named; else a value that says nothing of any
+-- what f says of the one that is named; `other` for none and for every one
 abbrev pub ifOne : {A : Type 0} → A → (ℕ → A) → Named → A
 ifOne other f none = other
 ifOne other f (one i) = f i
 ifOne other f every = other
 
--- whom and what an event changes, it names; an order's security too
+-- an event names what it changes, and an order its security too
 abbrev pub named : Change → Named × Named
 named (setClock t) = (none, none)
 named (setSession s) = (every, every)

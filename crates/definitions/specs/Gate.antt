@@ -49,7 +49,7 @@ marketViewAt w s = record { session = headerOf w .session; clock = headerOf w .c
 abbrev pub viewAt : List ℕ → ℕ → ℕ → View
 viewAt w s k = record { market = marketViewAt w s; desk = deskAt w k }
 
--- where the desk of a customer is found by its number; no condition asks for a record that is not named
+-- given the desk of each customer by its number, for the lone run has one; no condition asks for a record that is not named
 abbrev pub viewBy : (ℕ → Desk) → List ℕ → Event → View
 viewBy desks w e = record { market = marketViewAt w (ifOne 0 (λ s. s) (securityNamed e)); desk = ifOne freshDesk desks (customerNamed e) }
 
