@@ -1,7 +1,7 @@
 -- A corner: an event over given words, with the right answer and the right words after it, written as what changes in them. Places, sizes and codes stand
 -- here once more, as numbers of paper 01's "The lent state" and "Events" and of paper 02, so that a wrong one in specs/ is refused.
 use mathlib.Core.List.{List, [], _∷_, _++_}
-use Prim.Native.Nat.{ℕ, suc, _+_, _-_, _*_}
+use Prim.Native.Nat.{ℕ, zero, suc, _+_, _-_, _*_}
 use lib.ListN.{length, replicate, set}
 use Rattle.definitions.specs.declared.Answer.{Answer}
 use Rattle.definitions.specs.declared.Answer.the-variants as answer
@@ -11,14 +11,14 @@ use Rattle.definitions.proofs.Bytes as bytes
 use Rattle.definitions.proofs.Run.{resultOn, performedOn}
 
 -- words written from a place on, one after another
-abbrev pub Changes : Type 0
-Changes = List (ℕ × List ℕ)
+abbrev pub ChangedWords : Type 0
+ChangedWords = List (ℕ × List ℕ)
 
 abbrev pub written : List ℕ → ℕ → List ℕ → List ℕ
 written w place [] = w
 written w place (x ∷ xs) = written (set w place x) (suc place) xs
 
-abbrev pub changedBy : Changes → List ℕ → List ℕ
+abbrev pub changedBy : ChangedWords → List ℕ → List ℕ
 changedBy [] w = w
 changedBy (c ∷ cs) w = changedBy cs (written w (c .0) (c .1))
 
@@ -27,9 +27,9 @@ pub record Corner : Type 0 where
   pub words : List ℕ
   pub event : List ℕ
   pub answer : Answer
-  pub changes : Changes
+  pub changes : ChangedWords
 
-abbrev pub corner : List ℕ → List ℕ → Answer → Changes → Corner
+abbrev pub corner : List ℕ → List ℕ → Answer → ChangedWords → Corner
 corner words event answer changes = record { words = words; event = event; answer = answer; changes = changes }
 
 abbrev pub found : Corner → Answer × List ℕ
@@ -46,10 +46,10 @@ right c = (c .answer, changedBy (c .changes) (c .words))
 abbrev pub refused : List ℕ → List ℕ → ℕ → Corner
 refused words event n = corner words event (answer.Refused n) []
 
-abbrev pub done : List ℕ → List ℕ → Changes → Corner
+abbrev pub done : List ℕ → List ℕ → ChangedWords → Corner
 done words event changes = corner words event answer.Ok changes
 
-abbrev pub verdict : List ℕ → List ℕ → Verdict → Changes → Corner
+abbrev pub verdict : List ℕ → List ℕ → Verdict → ChangedWords → Corner
 verdict words event v changes = corner words event (answer.Verdict v) changes
 
 -- "Header: C, S, clock, session", then the words of the securities and of the desks
@@ -168,13 +168,13 @@ abbrev pub cancelled : ℕ → Entry → List ℕ
 cancelled time e = rowOf 2 time e
 
 -- what an order changes: its verdict's counter, and with accept and warn the row after those that are there
-abbrev pub rejects : ℕ → Changes
+abbrev pub rejects : ℕ → ChangedWords
 rejects desk = (desk + 2, 31 ∷ []) ∷ []
 
-abbrev pub takes : ℕ × ℕ → ℕ → Entry → Changes
+abbrev pub takes : ℕ × ℕ → ℕ → Entry → ChangedWords
 takes counter place e = (counter .0, counter .1 ∷ []) ∷ (place, opened e) ∷ []
 
-abbrev pub follows : ℕ → ℕ → Entry → Verdict → Changes
+abbrev pub follows : ℕ → ℕ → Entry → Verdict → ChangedWords
 follows desk row e RejectS = rejects desk
 follows desk row e RejectV = rejects desk
 follows desk row e RejectC = rejects desk
@@ -190,3 +190,19 @@ abbrev pub judged : ℕ → ℕ → List (List ℕ) → List (List ℕ) → Entr
 judged clock session securities rows e v =
     verdict (state clock session securities (desk rows ∷ [])) (bytesOf 0 e) v
     (follows (deskAt (length securities) 0) (rowAt (length securities) 0 (length rows)) e v)
+
+-- limit buys of 100 shares at 50.00 in security 0, online
+abbrev pub bought : ℕ → Entry
+bought number = entry number 0 main buy limit online 5000 100
+
+abbrev pub buys : ℕ → ℕ → List ℕ
+buys customer number = bytesOf customer (bought number)
+
+-- rows of them, numbered from 1
+abbrev pub openRows : ℕ → List (List ℕ)
+openRows zero = []
+openRows (suc n) = openRows n ++ (opened (bought (suc n)) ∷ [])
+
+-- two customers, of whom the second has such a row, and one security
+abbrev pub twoCustomers : List ℕ
+twoCustomers = state 5_000 2 (security plain untraded untraded ∷ []) (desk [] ∷ desk (opened (bought 1) ∷ []) ∷ [])

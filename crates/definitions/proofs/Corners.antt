@@ -13,14 +13,7 @@ use Rattle.definitions.specs.Gate as gate
 use Rattle.definitions.specs.Gate.{answerOf, made}
 use Rattle.definitions.proofs.Bytes.{clock, session, setup, prices, order, cancel, match}
 use Rattle.definitions.proofs.Run.{resultOn, wordsOf}
-use Rattle.definitions.proofs.Corner.{Corner, Entry, found, right, refused, done, verdict, written, joined, state, clockAt, sessionAt, deskAt, rowAt, security, plain, free, traded, untraded, counting, desk, main, foreign, buy, sell, limit, ato, atc, mp, online, entry, bytesOf, opened, cancelled, follows}
-
--- limit buys of 100 shares at 50.00 in security 0, online
-abbrev pub bought : ℕ → Entry
-bought number = entry number 0 main buy limit online 5000 100
-
-abbrev pub buys : ℕ → ℕ → List ℕ
-buys customer number = bytesOf customer (bought number)
+use Rattle.definitions.proofs.Corner.{Corner, found, right, refused, done, verdict, written, joined, state, clockAt, sessionAt, deskAt, rowAt, security, plain, free, traded, untraded, counting, desk, main, foreign, buy, sell, limit, ato, atc, mp, online, entry, bytesOf, opened, cancelled, follows, bought, buys, openRows, twoCustomers}
 
 -- one customer, one security, session 2, the clock at 5,000: no row, and an open row number 1
 abbrev pub bare : List ℕ
@@ -34,10 +27,6 @@ abbrev pub cancelledRow : ℕ → List ℕ
 cancelledRow now = state now 2 (security plain untraded untraded ∷ []) (desk (cancelled 5_000 (bought 1) ∷ []) ∷ [])
 
 -- a row and 31 open ones, a best offer, and a clock
-abbrev pub openRows : ℕ → List (List ℕ)
-openRows zero = []
-openRows (suc n) = openRows n ++ (opened (bought (suc n)) ∷ [])
-
 abbrev pub full : ℕ → List ℕ → List ℕ
 full now first = state now 2 (security free (traded 0 1000 0 5025) untraded ∷ []) (desk (first ∷ openRows 31) ∷ [])
 
@@ -54,12 +43,9 @@ pub full-words : wordsOf 1 1 (session 2 ∷ buys 0 32 ∷ orders 31) ≡ state 0
 unfolding wordsOf
 full-words = refl
 
--- one customer and two securities, and the other way round
+-- one customer and two securities
 abbrev pub twoSecurities : List ℕ
 twoSecurities = state 5_000 2 (security plain untraded untraded ∷ security plain untraded untraded ∷ []) (desk [] ∷ [])
-
-abbrev pub twoCustomers : List ℕ
-twoCustomers = state 5_000 2 (security plain untraded untraded ∷ []) (desk [] ∷ desk (opened (bought 1) ∷ []) ∷ [])
 
 abbrev pub corners : List Corner
 corners =

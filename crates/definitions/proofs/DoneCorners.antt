@@ -8,7 +8,7 @@ use Rattle.definitions.specs.declared.Verdict.the-variants.{RejectV, Rej
 use Rattle.definitions.proofs.Bytes.{clock, session, setup, prices, cancel, match, figures}
 use Rattle.definitions.specs.Lone.{marketWords, customerWords}
 use Rattle.definitions.proofs.Run.{resultOn}
-use Rattle.definitions.proofs.Corner.{Corner, Changes, Entry, found, right, done, verdict, joined, state, clockAt, sessionAt, securityAt, deskAt, rowAt, withFigures, security, terms, traded, counting, desk, main, foreign, buy, sell, limit, ato, atc, mp, online, entry, bytesOf, opened, cancelled}
+use Rattle.definitions.proofs.Corner.{Corner, ChangedWords, Entry, found, right, done, verdict, joined, state, clockAt, sessionAt, securityAt, deskAt, rowAt, withFigures, security, terms, traded, counting, desk, main, foreign, buy, sell, limit, ato, atc, mp, online, entry, bytesOf, opened, cancelled}
 
 -- three securities, of which no two words are alike that might be taken for each other
 abbrev pub first : List ℕ
@@ -60,7 +60,7 @@ abbrev pub rows : ℕ → List (List ℕ) → ℕ × List ℕ
 rows k after = (rowAt 3 k 0, joined after)
 
 -- every projected price absent, and only limits left
-abbrev pub changedSession : ℕ → Changes
+abbrev pub changedSession : ℕ → ChangedWords
 changedSession to =
     (sessionAt, to ∷ [])
     ∷ (securityAt 0 + 5, 0 ∷ [])
@@ -96,7 +96,7 @@ abbrev pub limits : ℕ → ℕ → Entry
 limits price volume = entry 1 0 main buy limit online price volume
 
 -- a setup's fields, and no figures any more
-abbrev pub setAnew : ℕ → List ℕ → Changes
+abbrev pub setAnew : ℕ → List ℕ → ChangedWords
 setAnew s fields = (securityAt s, fields) ∷ (securityAt s + 13, replicate 4 0) ∷ []
 
 abbrev pub corners : List Corner

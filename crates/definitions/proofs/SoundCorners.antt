@@ -7,8 +7,7 @@ use lib.ListN.{replicate}
 use Rattle.definitions.specs.declared.Verdict.the-variants.{Accept}
 use Rattle.definitions.proofs.Bytes.{clock, session, setup, prices, order, cancel, match, figures}
 use Rattle.definitions.proofs.Run.{resultOn}
-use Rattle.definitions.proofs.Corners.{bought, buys, twoCustomers}
-use Rattle.definitions.proofs.Corner.{Corner, found, right, refused, done, verdict, written, state, clockAt, securityAt, deskAt, rowAt, security, terms, traded, plain, untraded, desk, main, foreign, buy, sell, limit, ato, atc, mp, online, opened, cancelled, follows}
+use Rattle.definitions.proofs.Corner.{Corner, found, right, refused, done, verdict, written, state, clockAt, securityAt, deskAt, rowAt, security, terms, traded, plain, untraded, desk, main, foreign, buy, sell, limit, ato, atc, mp, online, opened, cancelled, follows, bought, buys, twoCustomers}
 
 -- two customers, each with an open row number 1, and three securities; and a security, or the row of a customer, that is not sound
 abbrev pub pair : List ℕ
