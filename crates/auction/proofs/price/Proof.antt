@@ -27,13 +27,13 @@ use prog.Routine.{Routine}
 use prog.Wp.{Heap, Env, Wp, WpFn, Tables, returns as returnsᴼ, next, exits as exitsᴼ, afterSeq, afterBlock, afterTurn, atReturn}
 use ghost.Atoms.{Atoms}
 use contract.Monad.{Fun}
-use contract.Running.{givenOf, tables, tablesOf}
+use contract.Running.{givenOf}
 use types.Kit as Kit
 use types.Kit.{Given, Item, Sq, runs, prop, anyQ, atRet, post, ‵, _⊛_, ⋆, _$_, _∵_, !, qed, by, move, keep, drop, rewrite, split, join, fsplit, fjoin, suffices, frame, done}
 use types.Part.{whole, sub, look-in, agg}
 use types.Run.{look, look-raw, init, store, forget, stop, fld, hop, from, load, lit, true-lit, false-lit, of-opd, bin, un, and-then, no-more, assigns, assigns-last, land, first, skips, jumps, blocks, branches, returns-within, loops, Below, again, exec, enter, alloc1, alloc0, params1, pass1, pass0, free1, free0}
 use types.Share.{arr-parts}
-use sound.WpLaws.{FmC, fmOf, WpFn-mono}
+use sound.WpLaws.{FmC, fmOf}
 use denote.RattleType.{owns}
 use denote.Shadow.{pureI}
 use denote.Laws.{Is, shows}
@@ -41,8 +41,7 @@ use denote.Memory.{pointee, shares}
 use denote.Plain.{uint-vals, uint-tells, uint-makes}
 use denote.Builtin.{u32, u64}
 use denote.Ref.{RefT, now, at-last}
-use denote.Signature.{plain}
-use denote.Slice.{sliceTy, sliceVal, MutSlice, ShrSlice, Room, heres, codedHoleys, at-slice, slice-vals, mut-slice-tells, shr-slice-tells}
+use denote.Slice.{sliceTy, sliceVal, MutSlice, ShrSlice, Room, heres, codedHoleys, at-slice}
 use denote.Lend.{Held}
 use denote.Index.{place-is, row, elem-out, elem-back, elem-put, opens-slice, closes-slice, looks-slice, shuts-slice}
 use denote.Steps.{owned, nothing}
@@ -50,10 +49,9 @@ use denote.Enum.Laws as EL
 use denote.Struct.Laws as LL
 use denote.Triple.Statement.{Triple}
 use denote.Triple.Entry.{onEntry}
-use denote.Triple.Spec.{Meets, tripleOf}
-use denote.Triple.Table.{entered, cited}
-use denote.Triple.Walked.{says, Stays, stay-slice, stay-none, stay-none-slice, walkOf, goes-slice, goes-none, goes-none-slice, Walks, ends-at, walked, walk-meets}
-use denote.Exit.{yes}
+use denote.Triple.Walked.{says, walkOf, ends-at}
+use Rattle.walks.proofs.Parameters.{Of, kept-slice, number, shared-slice, stayed}
+use Rattle.walks.proofs.Proved.{walk-proves}
 use Rattle.auction_definitions.specs.declared.AuctionAnswer.{AuctionAnswer}
 use Rattle.auction_definitions.specs.declared.AuctionAnswer.the-variants.{Refused}
 use Rattle.auction_definitions.specs.declared.AuctionOrder.{AuctionOrder}
@@ -67,22 +65,16 @@ use Rattle.auction_definitions.proofs.AuctionAnswer.Laws as N′
 use Rattle.auction_definitions.proofs.AuctionOrder as O
 use Rattle.auction_definitions.proofs.AuctionOrder.Laws as O′
 use Rattle.auction_definitions.proofs.Line.Laws as L′
-use Rattle.auction_lines.proofs.lists_fit.Symbol as lists-fit-def
 use Rattle.auction_lines.proofs.lists_fit.Symbol.{name as #lists-fit}
 use Rattle.auction_lines.proofs.lists_fit.Met as lists-fit-thm
-use Rattle.auction_lines.proofs.empty_line.Symbol as empty-line-def
 use Rattle.auction_lines.proofs.empty_line.Symbol.{name as #empty-line}
 use Rattle.auction_lines.proofs.empty_line.Met as empty-line-thm
-use Rattle.auction_lines.proofs.bad_at_first.Symbol as bad-at-first-def
 use Rattle.auction_lines.proofs.bad_at_first.Symbol.{name as #bad-at-first}
 use Rattle.auction_lines.proofs.bad_at_first.Met as bad-at-first-thm
-use Rattle.auction_lines.proofs.with_order.Symbol as with-order-def
 use Rattle.auction_lines.proofs.with_order.Symbol.{name as #with-order}
 use Rattle.auction_lines.proofs.with_order.Met as with-order-thm
-use Rattle.auction_lines.proofs.better.Symbol as better-def
 use Rattle.auction_lines.proofs.better.Symbol.{name as #better}
 use Rattle.auction_lines.proofs.better.Met as better-thm
-use Rattle.auction_lines.proofs.answer_of.Symbol as answer-of-def
 use Rattle.auction_lines.proofs.answer_of.Symbol.{name as #answer-of}
 use Rattle.auction_lines.proofs.answer_of.Met as answer-of-thm
 use Rattle.auction.proofs.Calls.{ListsFit, EmptyLine, BadAtFirst, WithOrder, Better, AnswerOf, calls-lists-fit, calls-empty-line, calls-bad-at-first, calls-with-order, calls-better, calls-answer-of}
@@ -97,8 +89,8 @@ use Rattle.auction.proofs.price.Statement as stated
 use Rattle.auction.proofs.price.Code as code
 use Rattle.auction.proofs.price.Code.Mir as body
 
-abbrev stayed : Stays (price.ended .signature .params) (price.ended .kept)
-stayed = (stay-none-slice (0 ∷ []) tt (plain (λ _. O.the-row)) yes, (stay-none (λ _. u32) yes, (stay-slice (1 ∷ []) tt (plain (λ _. u64)), (stay-slice (2 ∷ []) tt (plain (λ _. u64)), tt))))
+abbrev parameters : Of price.ended
+parameters = (shared-slice 0 tt O.the-row, (number w32, (kept-slice 1 tt u64, (kept-slice 2 tt u64, tt))))
 
 -- the types of the locals that are references
 abbrev ordersTy : Ty
@@ -159,7 +151,7 @@ module _ {M : Type 1} (𝓤 : URA M) (H : Heap 𝓤) (A : Atoms 𝓤) (W : Given
   vals = (vo ∷ [], (vint w32 reference ∷ [], (vb ∷ [], (vs ∷ [], tt))))
 
   abbrev Post : Val → SProp 𝓤
-  Post = walkOf 𝓤 H A price.ended stayed (price.clauses 𝓤 H A mem run) .post (((κ₀, (κ₁, (κ₂, tt))), (q₀, (q₁, (q₂, tt))), tt, a, vals), tt)
+  Post = walkOf 𝓤 H A price.ended (stayed price.ended parameters) (price.clauses 𝓤 H A mem run) .post (((κ₀, (κ₁, (κ₂, tt))), (q₀, (q₁, (q₂, tt))), tt, a, vals), tt)
 
   abbrev State : Type 0
   State = Places os reference (λ i. Filled (λ l. l .buyers) os bs₀ i × Filled (λ l. l .sellers) os ss₀ i)
@@ -174,7 +166,7 @@ module _ {M : Type 1} (𝓤 : URA M) (H : Heap 𝓤) (A : Atoms 𝓤) (W : Given
       → ent 𝓤 (⋆ 𝓤 H A (Owned bs ss [])) (Post (N′.lowered r))
   exits r bs ss is lb ls promise =
       qed W (Owned bs ss []) ∵
-      suffices ! _ (ends-at 𝓤 H A price.ended stayed (price.clauses 𝓤 H A mem run) W (((κ₀, (κ₁, (κ₂, tt))), (q₀, (q₁, (q₂, tt))), tt, a, vals), tt) (N′.lowered r) r (tt, (tt, (bs, (ss, tt)))) (tt, (tt, (lb, (ls, tt))))) $ says ! promise $
+      suffices ! _ (ends-at 𝓤 H A price.ended (stayed price.ended parameters) (price.clauses 𝓤 H A mem run) W (((κ₀, (κ₁, (κ₂, tt))), (q₀, (q₁, (q₂, tt))), tt, a, vals), tt) (N′.lowered r) r (tt, (tt, (bs, (ss, tt)))) (tt, (tt, (lb, (ls, tt))))) $ says ! promise $
       -- the tokens
       nothing ! $ move ! (5 ∷ 0 ∷ []) $ join ! $ move ! (7 ∷ 0 ∷ []) $ join ! $ move ! (7 ∷ 0 ∷ []) $ join ! $ frame ! $
       -- [the fractured borrow; its res; sellers' obs; its borrow; buyers' obs; its borrow]
@@ -468,32 +460,13 @@ module _ {M : Type 1} (𝓤 : URA M) (H : Heap 𝓤) (A : Atoms 𝓤) (W : Given
         ∷ 64 ∷ 62 ∷ 60 ∷ 58 ∷ 56 ∷ 54 ∷ 52 ∷ 50 ∷ 48 ∷ 46 ∷ 44 ∷ 42 ∷ 40 ∷ 38 ∷ 36 ∷ 34 ∷ 32 ∷ 30 ∷ 28 ∷ 26 ∷ 24 ∷ 22 ∷ 20 ∷ 18 ∷ 16 ∷ 14 ∷ 12 ∷ []) $
         starts l₀ l₁ l₂ l₃ l₄ l₅ l₆ l₇ l₈ l₉ l₁₀ l₁₁ l₁₂ l₁₃ l₁₄ l₁₅ l₁₆ l₁₇ l₁₈ l₁₉ l₂₀ l₂₁ l₂₂ l₂₃ l₂₄ l₂₅ l₂₆)))))))))))))))))))))))))))
 
-module _ {M : Type 1} (𝓤 : URA M) (H : Heap 𝓤) (A : Atoms 𝓤) (W : Given 𝓤 H A) (mem : Memory → SProp 𝓤) (run : Routine → Fun 𝓤) (𝓣 : Tables 𝓤 H) (known-lists-fit : Triple 𝓤 (𝓣 .C #lists-fit) (ListsFit 𝓤 H A mem run))
-    (known-empty-line : Triple 𝓤 (𝓣 .C #empty-line) (EmptyLine 𝓤 H A mem run))
-    (known-bad-at-first : Triple 𝓤 (𝓣 .C #bad-at-first) (BadAtFirst 𝓤 H A mem run))
-    (known-with-order : Triple 𝓤 (𝓣 .C #with-order) (WithOrder 𝓤 H A mem run))
-    (known-better : Triple 𝓤 (𝓣 .C #better) (Better 𝓤 H A mem run))
-    (known-answer-of : Triple 𝓤 (𝓣 .C #answer-of) (AnswerOf 𝓤 H A mem run)) where
-  price-walks : Walks 𝓤 H A price.ended stayed (WpFn 𝓤 H (𝓣 .C) (𝓣 .Λ) code.function) (price.clauses 𝓤 H A mem run)
-  price-walks = walked 𝓤 H A price.ended stayed (price.clauses 𝓤 H A mem run) (WpFn 𝓤 H (𝓣 .C) (𝓣 .Λ) code.function) (λ κs. (slice-vals, (uint-vals w32, (slice-vals, (slice-vals, tt)))))
-      (λ κs. (shr-slice-tells (named 0) (κs .0) O.the-row, (uint-tells w32, (mut-slice-tells (named 1) (κs .1 .0) u64, (mut-slice-tells (named 2) (κs .1 .1 .0) u64, tt)))))
-      (λ κs qs bounds a g are. via 𝓤 _ (fst∗ 𝓤 _ (emp 𝓤))
-      (walk 𝓤 H A W mem run (κs .0) (κs .1 .0) (κs .1 .1 .0) (qs .0) (qs .1 .0) (qs .1 .1 .0) (a .0) (a .1 .0) (a .1 .1 .0) (a .1 .1 .1 .0) (are .0 .0 .1) (are .1 .0 .1) (are .1 .1 .0 .0 .1) (are .1 .1 .1 .0 .0 .1) 𝓣 known-lists-fit known-empty-line known-bad-at-first known-with-order known-better known-answer-of))
-
-  price-meets : Meets 𝓤 H A price.signature (WpFn 𝓤 H (𝓣 .C) (𝓣 .Λ) code.function) (price.spec 𝓤 H A mem run)
-  price-meets =
-      walk-meets 𝓤 H A price.ended stayed W (goes-none-slice 𝓤 H A W 3 (0 ∷ []) tt (plain (λ _. O.the-row)) yes, (goes-none 𝓤 H A W 3 (λ _. u32) yes (λ κs x f. refl), (goes-slice 𝓤 H A W 3 1 tt (plain (λ _. u64)), (goes-slice 𝓤 H A W 3 2 tt (plain (λ _. u64)), tt))))
-      (price.clauses 𝓤 H A mem run) (WpFn 𝓤 H (𝓣 .C) (𝓣 .Λ) code.function) (WpFn-mono 𝓤 H (W .laws) 𝓣 code.function) price-walks
-
 pub price-spec : {M : Type 1} → stated.statement M
-unfolding code.routine tablesOf
-price-spec 𝓤 H 𝓜 𝓖 𝓡 =
-    entered 𝓤 H (tripleOf 𝓤 H (𝓖 .A) price.signature (price.spec 𝓤 H (𝓖 .A) (𝓜 .mem) (𝓡 .run)))
-    (tables 𝓤 H 𝓜 𝓡 code.env .C) (tables 𝓤 H 𝓜 𝓡 code.env .Λ) #auction·price code.function (code.unfolded 𝓤 H 𝓜 𝓡)
-    (price-meets 𝓤 H (𝓖 .A) (givenOf 𝓤 H 𝓜 𝓖) (𝓜 .mem) (𝓡 .run) (tablesOf 𝓤 H 𝓜 (tables 𝓤 H 𝓜 𝓡 code.env))
-    (cited 𝓤 H (ListsFit 𝓤 H (𝓖 .A) (𝓜 .mem) (𝓡 .run)) 𝓜 𝓡 code.env #lists-fit lists-fit-def.routine code.calls-auction-lines·lists-fit (lists-fit-thm.met 𝓤 H 𝓜 𝓖 𝓡))
-    (cited 𝓤 H (EmptyLine 𝓤 H (𝓖 .A) (𝓜 .mem) (𝓡 .run)) 𝓜 𝓡 code.env #empty-line empty-line-def.routine code.calls-auction-lines·empty-line (empty-line-thm.met 𝓤 H 𝓜 𝓖 𝓡))
-    (cited 𝓤 H (BadAtFirst 𝓤 H (𝓖 .A) (𝓜 .mem) (𝓡 .run)) 𝓜 𝓡 code.env #bad-at-first bad-at-first-def.routine code.calls-auction-lines·bad-at-first (bad-at-first-thm.met 𝓤 H 𝓜 𝓖 𝓡))
-    (cited 𝓤 H (WithOrder 𝓤 H (𝓖 .A) (𝓜 .mem) (𝓡 .run)) 𝓜 𝓡 code.env #with-order with-order-def.routine code.calls-auction-lines·with-order (with-order-thm.met 𝓤 H 𝓜 𝓖 𝓡))
-    (cited 𝓤 H (Better 𝓤 H (𝓖 .A) (𝓜 .mem) (𝓡 .run)) 𝓜 𝓡 code.env #better better-def.routine code.calls-auction-lines·better (better-thm.met 𝓤 H 𝓜 𝓖 𝓡))
-    (cited 𝓤 H (AnswerOf 𝓤 H (𝓖 .A) (𝓜 .mem) (𝓡 .run)) 𝓜 𝓡 code.env #answer-of answer-of-def.routine code.calls-auction-lines·answer-of (answer-of-thm.met 𝓤 H 𝓜 𝓖 𝓡)))
+unfolding code.routine
+price-spec 𝓤 H 𝓜 𝓖 𝓡 = walk-proves 𝓤 H 𝓜 𝓖 𝓡 code.env price.ended parameters (price.clauses 𝓤 H (𝓖 .A) (𝓜 .mem) (𝓡 .run)) #auction·price code.function (code.unfolded 𝓤 H 𝓜 𝓡) (λ 𝓣 known κs qs bounds a g are. via 𝓤 _ (fst∗ 𝓤 _ (emp 𝓤))
+    (walk 𝓤 H (𝓖 .A) (givenOf 𝓤 H 𝓜 𝓖) (𝓜 .mem) (𝓡 .run) (κs .0) (κs .1 .0) (κs .1 .1 .0) (qs .0) (qs .1 .0) (qs .1 .1 .0) (a .0) (a .1 .0) (a .1 .1 .0) (a .1 .1 .1 .0) (are .0 .0 .1) (are .1 .0 .1) (are .1 .1 .0 .0 .1) (are .1 .1 .1 .0 .0 .1) 𝓣
+    (known .cites (ListsFit 𝓤 H (𝓖 .A) (𝓜 .mem) (𝓡 .run)) code.calls-auction-lines·lists-fit (lists-fit-thm.met 𝓤 H 𝓜 𝓖 𝓡))
+    (known .cites (EmptyLine 𝓤 H (𝓖 .A) (𝓜 .mem) (𝓡 .run)) code.calls-auction-lines·empty-line (empty-line-thm.met 𝓤 H 𝓜 𝓖 𝓡))
+    (known .cites (BadAtFirst 𝓤 H (𝓖 .A) (𝓜 .mem) (𝓡 .run)) code.calls-auction-lines·bad-at-first (bad-at-first-thm.met 𝓤 H 𝓜 𝓖 𝓡))
+    (known .cites (WithOrder 𝓤 H (𝓖 .A) (𝓜 .mem) (𝓡 .run)) code.calls-auction-lines·with-order (with-order-thm.met 𝓤 H 𝓜 𝓖 𝓡))
+    (known .cites (Better 𝓤 H (𝓖 .A) (𝓜 .mem) (𝓡 .run)) code.calls-auction-lines·better (better-thm.met 𝓤 H 𝓜 𝓖 𝓡))
+    (known .cites (AnswerOf 𝓤 H (𝓖 .A) (𝓜 .mem) (𝓡 .run)) code.calls-auction-lines·answer-of (answer-of-thm.met 𝓤 H 𝓜 𝓖 𝓡))))

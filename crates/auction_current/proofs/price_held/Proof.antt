@@ -22,31 +22,30 @@ use prog.Routine.{Routine}
 use prog.Wp.{Heap, Env, WpFn, Tables, returns as returnsᴼ, atReturn}
 use ghost.Atoms.{Atoms}
 use contract.Monad.{Fun, fact}
-use contract.Running.{givenOf, tables, tablesOf}
+use contract.Running.{givenOf}
 use types.Kit as Kit
 use types.Kit.{Given, Item, Sq, runs, atRet, post, ‵, raw, _⊛_, ⋆, some, later, _$_, _∵_, !, qed, by, move, keep, drop, rewrite, use1, use2, split, join, group, pick, fsplit, fjoin, feqL, suffices, frame, await, done}
 use types.Part.{whole, sub, look-in, agg}
 use types.Run.{look, init, forget, stop, fld, hop, from, load, of-opd, addr, and-then, no-more, assigns, land, first, skips, branches, returns-within, exec, enter, alloc1, alloc0, params1, pass1, pass0, free1, free0}
 use types.Tokens.{lft-new, lft-end}
-use sound.WpLaws.{FmC, fmOf, WpFn-mono}
+use sound.WpLaws.{FmC, fmOf}
 use denote.RattleType.{owns}
 use denote.Laws.{Is, shows}
 use denote.Memory.{pointee}
-use denote.Plain.{uint-vals, uint-tells, uint-makes, nothing-lawful}
+use denote.Plain.{uint-makes, nothing-lawful}
 use denote.Builtin.{u32, u64, usize, unit}
 use denote.Ref.{RefT, now}
-use denote.Signature.{plain}
-use denote.Slice.{sliceTy, sliceVal, MutSlice, ShrSlice, Room, finally, slice-vals, mut-slice-tells}
+use denote.Slice.{sliceTy, sliceVal, MutSlice, ShrSlice, Room, finally}
 use denote.Steps.{only, owned, peeks, heard, nothing}
 use denote.Enum.Laws as EL
 use denote.Triple.Statement.{Contract, Triple}
 use denote.Triple.Call.{calls-at}
 use denote.Triple.Entry.{onEntry}
-use denote.Triple.Spec.{Meets, tripleOf}
-use denote.Triple.Table.{entered, cited}
+use denote.Triple.Spec.{tripleOf}
 use denote.Triple.Clauses.{Lasts, ensured, lasts}
-use denote.Triple.Walked.{says, needs, Stays, gave-slice, stay-none, walkOf, goes-gave-slice, goes-none, Walks, ends-at, walked, walk-meets}
-use denote.Exit.{yes}
+use denote.Triple.Walked.{says, needs, walkOf, ends-at}
+use Rattle.walks.proofs.Parameters.{Of, gave-slice, number, stayed}
+use Rattle.walks.proofs.Proved.{walk-proves}
 use Rattle.auction_definitions.specs.declared.AuctionAnswer.{AuctionAnswer}
 use Rattle.auction_definitions.specs.declared.AuctionOrder.{AuctionOrder}
 use Rattle.auction_definitions.specs.Auction.{refusal}
@@ -58,14 +57,11 @@ use Rattle.auction_definitions.proofs.AuctionAnswer.Laws as N′
 use Rattle.auction_definitions.proofs.AuctionOrder as O
 use Rattle.auction.proofs.States.{answer-typed, fails, holds}
 use Rattle.auction.proofs.volumes.price_and_volumes as price
-use Rattle.auction.proofs.volumes.price_and_volumes.Symbol as price-def
 use Rattle.auction.proofs.volumes.price_and_volumes.Symbol.{name as #price-and-volumes}
 use Rattle.auction.proofs.volumes.price_and_volumes.Met as price-thm
-use Rattle.auction_lines.proofs.is_refused.Symbol as is-refused-def
 use Rattle.auction_lines.proofs.is_refused.Symbol.{name as #is-refused}
 use Rattle.auction_lines.proofs.is_refused.Met as is-refused-thm
 use Rattle.auction_list.proofs.clear_from as clear-from
-use Rattle.auction_list.proofs.clear_from.Symbol as clear-from-def
 use Rattle.auction_list.proofs.clear_from.Symbol.{name as #clear-from}
 use Rattle.auction_list.proofs.clear_from.Met as clear-from-thm
 use Rattle.auction_current.proofs.Calls.{IsRefused, calls-is-refused}
@@ -78,8 +74,8 @@ use Rattle.auction_current.proofs.price_held.Statement as stated
 use Rattle.auction_current.proofs.price_held.Code as code
 use Rattle.auction_current.proofs.price_held.Code.Mir as body
 
-abbrev stayed : Stays (price-held.ended .signature .params) (price-held.ended .kept)
-stayed = (gave-slice (0 ∷ []) tt (plain (λ _. O.the-row)), (stay-none (λ _. usize) yes, (stay-none (λ _. u32) yes, (gave-slice (1 ∷ []) tt (plain (λ _. u64)), tt))))
+abbrev parameters : Of price-held.ended
+parameters = (gave-slice 0 tt O.the-row, (number w64, (number w32, (gave-slice 1 tt u64, tt))))
 
 -- the types of the locals that are references
 abbrev ordersTy : Ty
@@ -142,7 +138,7 @@ module _ {M : Type 1} (𝓤 : URA M) (H : Heap 𝓤) (A : Atoms 𝓤) (W : Given
   vals = (vo ∷ [], (vint w64 held ∷ [], (vint w32 reference ∷ [], (vv ∷ [], tt))))
 
   abbrev Post : Val → SProp 𝓤
-  Post = walkOf 𝓤 H A price-held.ended stayed (price-held.clauses 𝓤 H A mem run) .post (((κ₀, (κ₁, tt)), (q₀, (q₁, tt)), tt, a, vals), tt)
+  Post = walkOf 𝓤 H A price-held.ended (stayed price-held.ended parameters) (price-held.clauses 𝓤 H A mem run) .post (((κ₀, (κ₁, tt)), (q₀, (q₁, tt)), tt, a, vals), tt)
 
   abbrev Orders : Fml
   Orders = MutSlice (named 0) κ₀ O.the-row .own xo (vo ∷ [])
@@ -157,7 +153,7 @@ module _ {M : Type 1} (𝓤 : URA M) (H : Heap 𝓤) (A : Atoms 𝓤) (W : Given
       → ent 𝓤 (⋆ 𝓤 H A (‵ (finally O.the-row (xo .name) zs) ∷ ‵ (flft κ₀ q₀) ∷ ‵ (finally u64 (xv .name) ws) ∷ ‵ (flft κ₁ q₁) ∷ [])) (Post (N′.lowered r))
   exits r zs ws is lz lw promise =
       qed W (‵ (finally O.the-row (xo .name) zs) ∷ ‵ (flft κ₀ q₀) ∷ ‵ (finally u64 (xv .name) ws) ∷ ‵ (flft κ₁ q₁) ∷ []) ∵
-      suffices ! _ (ends-at 𝓤 H A price-held.ended stayed (price-held.clauses 𝓤 H A mem run) W (((κ₀, (κ₁, tt)), (q₀, (q₁, tt)), tt, a, vals), tt) (N′.lowered r) r (zs, (tt, (tt, (ws, tt)))) (lz, (tt, (tt, (lw, tt))))) $ says ! promise $
+      suffices ! _ (ends-at 𝓤 H A price-held.ended (stayed price-held.ended parameters) (price-held.clauses 𝓤 H A mem run) W (((κ₀, (κ₁, tt)), (q₀, (q₁, tt)), tt, a, vals), tt) (N′.lowered r) r (zs, (tt, (tt, (ws, tt)))) (lz, (tt, (tt, (lw, tt))))) $ says ! promise $
       -- the tokens
       nothing ! $ move ! (4 ∷ 0 ∷ []) $ join ! $ move ! (2 ∷ 0 ∷ []) $ join ! $ frame ! $
       -- [how the orders end; how the volumes end]
@@ -296,25 +292,10 @@ module _ {M : Type 1} (𝓤 : URA M) (H : Heap 𝓤) (A : Atoms 𝓤) (W : Given
         keep ! (5 ∷ 2 ∷ 3 ∷ 0 ∷ 32 ∷ 30 ∷ 28 ∷ 26 ∷ 24 ∷ 22 ∷ 20 ∷ 18 ∷ 16 ∷ 14 ∷ 12 ∷ 10 ∷ 8 ∷ 6 ∷ 33 ∷ 31 ∷ 29 ∷ 27 ∷ 25 ∷ 23 ∷ 21 ∷ 19 ∷ 17 ∷ 15 ∷ 13 ∷ 11 ∷ 9 ∷ 7 ∷ []) $
         starts l₀ l₁ l₂ l₃ l₄ l₅ l₆ l₇ l₈ l₉ l₁₀ l₁₁ l₁₂ l₁₃))))))))))))))
 
-module _ {M : Type 1} (𝓤 : URA M) (H : Heap 𝓤) (A : Atoms 𝓤) (W : Given 𝓤 H A) (mem : Memory → SProp 𝓤) (run : Routine → Fun 𝓤) (𝓣 : Tables 𝓤 H)
-    (known-price : Triple 𝓤 (𝓣 .C #price-and-volumes) (Price 𝓤 H A mem run)) (known-is-refused : Triple 𝓤 (𝓣 .C #is-refused) (IsRefused 𝓤 H A mem run)) (known-clear-from : Triple 𝓤 (𝓣 .C #clear-from) (ClearFrom 𝓤 H A mem run)) where
-  price-held-walks : Walks 𝓤 H A price-held.ended stayed (WpFn 𝓤 H (𝓣 .C) (𝓣 .Λ) code.function) (price-held.clauses 𝓤 H A mem run)
-  price-held-walks = walked 𝓤 H A price-held.ended stayed (price-held.clauses 𝓤 H A mem run) (WpFn 𝓤 H (𝓣 .C) (𝓣 .Λ) code.function) (λ κs. (slice-vals, (uint-vals w64, (uint-vals w32, (slice-vals, tt)))))
-      (λ κs. (mut-slice-tells (named 0) (κs .0) O.the-row, (uint-tells w64, (uint-tells w32, (mut-slice-tells (named 1) (κs .1 .0) u64, tt)))))
-      (λ κs qs bounds a g are. needs 𝓤 (a .1 .0 ≤ length (now (a .0))) _ (λ within.
-      walk 𝓤 H A W mem run (κs .0) (κs .1 .0) (qs .0) (qs .1 .0) (a .0) (a .1 .0) (a .1 .1 .0) (a .1 .1 .1 .0) (are .0 .0 .1) (are .1 .0 .1) (are .1 .1 .0 .1) (are .1 .1 .1 .0 .0 .1) within 𝓣 known-price known-is-refused known-clear-from))
-
-  price-held-meets : Meets 𝓤 H A price-held.signature (WpFn 𝓤 H (𝓣 .C) (𝓣 .Λ) code.function) (price-held.spec 𝓤 H A mem run)
-  price-held-meets =
-      walk-meets 𝓤 H A price-held.ended stayed W (goes-gave-slice 𝓤 H A W 2 0 tt (plain (λ _. O.the-row)), (goes-none 𝓤 H A W 2 (λ _. usize) yes (λ κs x f. refl), (goes-none 𝓤 H A W 2 (λ _. u32) yes (λ κs x f. refl), (goes-gave-slice 𝓤 H A W 2 1 tt (plain (λ _. u64)), tt))))
-      (price-held.clauses 𝓤 H A mem run) (WpFn 𝓤 H (𝓣 .C) (𝓣 .Λ) code.function) (WpFn-mono 𝓤 H (W .laws) 𝓣 code.function) price-held-walks
-
 pub price-held-spec : {M : Type 1} → stated.statement M
-unfolding code.routine tablesOf
-price-held-spec 𝓤 H 𝓜 𝓖 𝓡 =
-    entered 𝓤 H (tripleOf 𝓤 H (𝓖 .A) price-held.signature (price-held.spec 𝓤 H (𝓖 .A) (𝓜 .mem) (𝓡 .run)))
-    (tables 𝓤 H 𝓜 𝓡 code.env .C) (tables 𝓤 H 𝓜 𝓡 code.env .Λ) #price-held code.function (code.unfolded 𝓤 H 𝓜 𝓡)
-    (price-held-meets 𝓤 H (𝓖 .A) (givenOf 𝓤 H 𝓜 𝓖) (𝓜 .mem) (𝓡 .run) (tablesOf 𝓤 H 𝓜 (tables 𝓤 H 𝓜 𝓡 code.env))
-    (cited 𝓤 H (Price 𝓤 H (𝓖 .A) (𝓜 .mem) (𝓡 .run)) 𝓜 𝓡 code.env #price-and-volumes price-def.routine code.calls-auction·volumes·price-and-volumes (price-thm.met 𝓤 H 𝓜 𝓖 𝓡))
-    (cited 𝓤 H (IsRefused 𝓤 H (𝓖 .A) (𝓜 .mem) (𝓡 .run)) 𝓜 𝓡 code.env #is-refused is-refused-def.routine code.calls-auction-lines·is-refused (is-refused-thm.met 𝓤 H 𝓜 𝓖 𝓡))
-    (cited 𝓤 H (ClearFrom 𝓤 H (𝓖 .A) (𝓜 .mem) (𝓡 .run)) 𝓜 𝓡 code.env #clear-from clear-from-def.routine code.calls-auction-list·clear-from (clear-from-thm.met 𝓤 H 𝓜 𝓖 𝓡)))
+unfolding code.routine
+price-held-spec 𝓤 H 𝓜 𝓖 𝓡 = walk-proves 𝓤 H 𝓜 𝓖 𝓡 code.env price-held.ended parameters (price-held.clauses 𝓤 H (𝓖 .A) (𝓜 .mem) (𝓡 .run)) #price-held code.function (code.unfolded 𝓤 H 𝓜 𝓡) (λ 𝓣 known κs qs bounds a g are. needs 𝓤 (a .1 .0 ≤ length (now (a .0))) _ (λ within.
+    walk 𝓤 H (𝓖 .A) (givenOf 𝓤 H 𝓜 𝓖) (𝓜 .mem) (𝓡 .run) (κs .0) (κs .1 .0) (qs .0) (qs .1 .0) (a .0) (a .1 .0) (a .1 .1 .0) (a .1 .1 .1 .0) (are .0 .0 .1) (are .1 .0 .1) (are .1 .1 .0 .1) (are .1 .1 .1 .0 .0 .1) within 𝓣
+    (known .cites (Price 𝓤 H (𝓖 .A) (𝓜 .mem) (𝓡 .run)) code.calls-auction·volumes·price-and-volumes (price-thm.met 𝓤 H 𝓜 𝓖 𝓡))
+    (known .cites (IsRefused 𝓤 H (𝓖 .A) (𝓜 .mem) (𝓡 .run)) code.calls-auction-lines·is-refused (is-refused-thm.met 𝓤 H 𝓜 𝓖 𝓡))
+    (known .cites (ClearFrom 𝓤 H (𝓖 .A) (𝓜 .mem) (𝓡 .run)) code.calls-auction-list·clear-from (clear-from-thm.met 𝓤 H 𝓜 𝓖 𝓡))))

@@ -22,29 +22,27 @@ use prog.Routine.{Routine}
 use prog.Wp.{Heap, Env, WpFn, Tables, returns as returnsᴼ, atReturn}
 use ghost.Atoms.{Atoms}
 use contract.Monad.{Fun}
-use contract.Running.{givenOf, tables, tablesOf}
+use contract.Running.{givenOf}
 use types.Kit as Kit
 use types.Kit.{Given, Item, Sq, runs, atRet, post, ‵, _⊛_, ⋆, _$_, _∵_, !, qed, by, move, keep, drop, use1, split, join, fsplit, fsplit3, fjoin, fjoin3, feqI, fltL, fltI, suffices, frame, done}
 use types.Part.{whole, sub, look-in, agg}
 use types.Run.{look, init, store, forget, stop, fld, hop, from, load, lit, of-opd, addr, bin, un, and-then, no-more, assigns, land, first, skips, branches, returns-within, exec, enter, alloc1, alloc0, params1, pass1, pass0, free1, free0}
 use types.SemTy.{Body}
-use sound.WpLaws.{FmC, fmOf, WpFn-mono}
+use sound.WpLaws.{FmC, fmOf}
 use denote.RattleType.{owns}
 use denote.Laws.{Is}
 use denote.Memory.{mem as mem-of, pointee}
-use denote.Plain.{uint-vals, uint-tells, uint-makes}
+use denote.Plain.{uint-makes}
 use denote.Builtin.{u32, u64, usize}
-use denote.Ref.{RefT, MutRef, now, at-last, ptr-vals, mut-tells}
-use denote.Signature.{plain}
-use denote.Slice.{sliceTy, sliceVal, MutSlice, Room, finally, slice-vals, mut-slice-tells}
+use denote.Ref.{RefT, MutRef, now, at-last}
+use denote.Slice.{sliceTy, sliceVal, MutSlice, Room, finally}
 use denote.Steps.{opens, closes, tied, ties, owned, nothing}
 use denote.Enum.Laws as EL
 use denote.Triple.Statement.{Triple}
 use denote.Triple.Entry.{onEntry}
-use denote.Triple.Spec.{Meets, tripleOf}
-use denote.Triple.Table.{entered, cited}
-use denote.Triple.Walked.{says, Stays, gave-slice, stay-ref, stay-none, walkOf, goes-gave-slice, goes-ref, goes-none, Walks, ends-at, walked, walk-meets}
-use denote.Exit.{yes}
+use denote.Triple.Walked.{says, walkOf, ends-at}
+use Rattle.walks.proofs.Parameters.{Of, gave-slice, kept-ref, number, stayed}
+use Rattle.walks.proofs.Proved.{walk-proves}
 use Rattle.auction_definitions.specs.declared.AuctionAnswer.{AuctionAnswer}
 use Rattle.auction_definitions.specs.declared.AuctionAnswer.the-variants.{Refused}
 use Rattle.auction_definitions.specs.declared.AuctionOrder.{AuctionOrder}
@@ -59,28 +57,20 @@ use Rattle.auction_definitions.proofs.AuctionOrder as O
 use Rattle.auction_definitions.proofs.AuctionOrder.Laws as O′
 use Rattle.auction_lines.proofs.Typed.{order-typed}
 use Rattle.auction.proofs.States.{answer-typed, fails, holds, holds-twice}
-use Rattle.auction_lines.proofs.take_fits.Symbol as take-fits-def
 use Rattle.auction_lines.proofs.take_fits.Symbol.{name as #take-fits}
 use Rattle.auction_lines.proofs.take_fits.Met as take-fits-thm
-use Rattle.auction_list.proofs.any_bad.Symbol as any-bad-def
 use Rattle.auction_list.proofs.any_bad.Symbol.{name as #any-bad}
 use Rattle.auction_list.proofs.any_bad.Met as any-bad-thm
-use Rattle.auction_lines.proofs.place_refused.Symbol as place-refused-def
 use Rattle.auction_lines.proofs.place_refused.Symbol.{name as #place-refused}
 use Rattle.auction_lines.proofs.place_refused.Met as place-refused-thm
-use Rattle.auction_list.proofs.close_gap.Symbol as close-gap-def
 use Rattle.auction_list.proofs.close_gap.Symbol.{name as #close-gap}
 use Rattle.auction_list.proofs.close_gap.Met as close-gap-thm
-use Rattle.auction_lines.proofs.bad_order.Symbol as bad-order-def
 use Rattle.auction_lines.proofs.bad_order.Symbol.{name as #bad-order}
 use Rattle.auction_lines.proofs.bad_order.Met as bad-order-thm
-use Rattle.auction_list.proofs.open_gap.Symbol as open-gap-def
 use Rattle.auction_list.proofs.open_gap.Symbol.{name as #open-gap}
 use Rattle.auction_list.proofs.open_gap.Met as open-gap-thm
-use Rattle.auction_current.proofs.price_held.Symbol as price-held-def
 use Rattle.auction_current.proofs.price_held.Symbol.{name as #price-held}
 use Rattle.auction_current.proofs.price_held.Met as price-held-thm
-use Rattle.auction_lines.proofs.is_refused.Symbol as is-refused-def
 use Rattle.auction_lines.proofs.is_refused.Symbol.{name as #is-refused}
 use Rattle.auction_lines.proofs.is_refused.Met as is-refused-thm
 use Rattle.auction_current.proofs.Calls.{BadOrder, IsRefused, PlaceRefused, TakeFits, calls-bad-order, calls-is-refused, calls-place-refused, calls-take-fits}
@@ -95,8 +85,8 @@ use Rattle.auction_current.proofs.take.Statement as stated
 use Rattle.auction_current.proofs.take.Code as code
 use Rattle.auction_current.proofs.take.Code.Mir as body
 
-abbrev stayed : Stays (take.ended .signature .params) (take.ended .kept)
-stayed = (gave-slice (0 ∷ []) tt (plain (λ _. O.the-row)), (stay-ref (1 ∷ []) tt (plain (λ _. usize)), (stay-none (λ _. usize) yes, (stay-none (λ _. u32) yes, (gave-slice (2 ∷ []) tt (plain (λ _. u64)), tt)))))
+abbrev parameters : Of take.ended
+parameters = (gave-slice 0 tt O.the-row, (kept-ref 1 tt usize, (number w64, (number w32, (gave-slice 2 tt u64, tt)))))
 
 -- the types of the locals that are references
 abbrev ordersTy : Ty
@@ -174,7 +164,7 @@ module _ {M : Type 1} (𝓤 : URA M) (H : Heap 𝓤) (A : Atoms 𝓤) (W : Given
   vals = (vo ∷ [], (vptr b₁ o₁ ∷ [], (vint w64 place ∷ [], (vint w32 reference ∷ [], (vv ∷ [], tt)))))
 
   abbrev Post : Val → SProp 𝓤
-  Post = walkOf 𝓤 H A take.ended stayed (take.clauses 𝓤 H A mem run) .post (((κ₀, (κ₁, (κ₂, tt))), (q₀, (q₁, (q₂, tt))), tt, a, vals), tt)
+  Post = walkOf 𝓤 H A take.ended (stayed take.ended parameters) (take.clauses 𝓤 H A mem run) .post (((κ₀, (κ₁, (κ₂, tt))), (q₀, (q₁, (q₂, tt))), tt, a, vals), tt)
 
   abbrev Volumes : Fml
   Volumes = MutSlice (named 2) κ₂ u64 .own xv (vv ∷ [])
@@ -183,7 +173,7 @@ module _ {M : Type 1} (𝓤 : URA M) (H : Heap 𝓤) (A : Atoms 𝓤) (W : Given
       → ent 𝓤 (⋆ 𝓤 H A (‵ (fobs (xn .name) (usize .coded .code m)) ∷ ‵ (fbor κ₁ (Body (mem-of usize) b₁ o₁ (xn .name))) ∷ ‵ (flft κ₁ q₁) ∷ ‵ (finally O.the-row (xo .name) zs) ∷ ‵ (flft κ₀ q₀) ∷ ‵ (finally u64 (xv .name) ws) ∷ ‵ (flft κ₂ q₂) ∷ [])) (Post (N′.lowered r))
   exits r zs m ws is lz lw promise =
       qed W (‵ (fobs (xn .name) (usize .coded .code m)) ∷ ‵ (fbor κ₁ (Body (mem-of usize) b₁ o₁ (xn .name))) ∷ ‵ (flft κ₁ q₁) ∷ ‵ (finally O.the-row (xo .name) zs) ∷ ‵ (flft κ₀ q₀) ∷ ‵ (finally u64 (xv .name) ws) ∷ ‵ (flft κ₂ q₂) ∷ []) ∵
-      suffices ! _ (ends-at 𝓤 H A take.ended stayed (take.clauses 𝓤 H A mem run) W (((κ₀, (κ₁, (κ₂, tt))), (q₀, (q₁, (q₂, tt))), tt, a, vals), tt) (N′.lowered r) r (zs, (m, (tt, (tt, (ws, tt))))) (lz, (tt, (tt, (tt, (lw, tt)))))) $ says ! promise $
+      suffices ! _ (ends-at 𝓤 H A take.ended (stayed take.ended parameters) (take.clauses 𝓤 H A mem run) W (((κ₀, (κ₁, (κ₂, tt))), (q₀, (q₁, (q₂, tt))), tt, a, vals), tt) (N′.lowered r) r (zs, (m, (tt, (tt, (ws, tt))))) (lz, (tt, (tt, (tt, (lw, tt)))))) $ says ! promise $
       -- the tokens
       nothing ! $ move ! (7 ∷ 0 ∷ []) $ join ! $ move ! (3 ∷ 0 ∷ []) $ join ! $ move ! (4 ∷ 0 ∷ []) $ join ! $ frame ! $
       -- [the count's obs; its borrow; how the orders end; how the volumes end]
@@ -385,37 +375,15 @@ module _ {M : Type 1} (𝓤 : URA M) (H : Heap 𝓤) (A : Atoms 𝓤) (W : Given
         ∷ 71 ∷ 69 ∷ 67 ∷ 65 ∷ 63 ∷ 61 ∷ 59 ∷ 57 ∷ 55 ∷ 53 ∷ 51 ∷ 49 ∷ 47 ∷ 45 ∷ 43 ∷ 41 ∷ 39 ∷ 37 ∷ 35 ∷ 33 ∷ 31 ∷ 29 ∷ 27 ∷ 25 ∷ 23 ∷ 21 ∷ 19 ∷ 17 ∷ 15 ∷ 13 ∷ 11 ∷ []) $
         starts n-ok l₀ l₁ l₂ l₃ l₄ l₅ l₆ l₇ l₈ l₉ l₁₀ l₁₁ l₁₂ l₁₃ l₁₄ l₁₅ l₁₆ l₁₇ l₁₈ l₁₉ l₂₀ l₂₁ l₂₂ l₂₃ l₂₄ l₂₅ l₂₆ l₂₇ l₂₈ l₂₉ l₃₀)))))))))))))))))))))))))))))))))
 
-module _ {M : Type 1} (𝓤 : URA M) (H : Heap 𝓤) (A : Atoms 𝓤) (W : Given 𝓤 H A) (mem : Memory → SProp 𝓤) (run : Routine → Fun 𝓤) (𝓣 : Tables 𝓤 H)
-    (known-fits : Triple 𝓤 (𝓣 .C #take-fits) (TakeFits 𝓤 H A mem run))
-    (known-any-bad : Triple 𝓤 (𝓣 .C #any-bad) (AnyBad 𝓤 H A mem run))
-    (known-place-refused : Triple 𝓤 (𝓣 .C #place-refused) (PlaceRefused 𝓤 H A mem run))
-    (known-close-gap : Triple 𝓤 (𝓣 .C #close-gap) (CloseGap 𝓤 H A mem run))
-    (known-bad-order : Triple 𝓤 (𝓣 .C #bad-order) (BadOrder 𝓤 H A mem run))
-    (known-open-gap : Triple 𝓤 (𝓣 .C #open-gap) (OpenGap 𝓤 H A mem run))
-    (known-price-held : Triple 𝓤 (𝓣 .C #price-held) (PriceHeld 𝓤 H A mem run))
-    (known-is-refused : Triple 𝓤 (𝓣 .C #is-refused) (IsRefused 𝓤 H A mem run)) where
-  take-walks : Walks 𝓤 H A take.ended stayed (WpFn 𝓤 H (𝓣 .C) (𝓣 .Λ) code.function) (take.clauses 𝓤 H A mem run)
-  take-walks = walked 𝓤 H A take.ended stayed (take.clauses 𝓤 H A mem run) (WpFn 𝓤 H (𝓣 .C) (𝓣 .Λ) code.function) (λ κs. (slice-vals, (ptr-vals, (uint-vals w64, (uint-vals w32, (slice-vals, tt))))))
-      (λ κs. (mut-slice-tells (named 0) (κs .0) O.the-row, (mut-tells (named 1) (κs .1 .0) usize, (uint-tells w64, (uint-tells w32, (mut-slice-tells (named 2) (κs .1 .1 .0) u64, tt))))))
-      (λ κs qs bounds a g are. via 𝓤 _ (fst∗ 𝓤 _ (emp 𝓤))
-      (walk 𝓤 H A W mem run (κs .0) (κs .1 .0) (κs .1 .1 .0) (qs .0) (qs .1 .0) (qs .1 .1 .0) (a .0) (a .1 .0) (a .1 .1 .0) (a .1 .1 .1 .0) (a .1 .1 .1 .1 .0) (are .0 .0 .1) (are .1 .1 .0 .1) (are .1 .1 .1 .0 .1) (are .1 .1 .1 .1 .0 .0 .1) 𝓣 known-fits known-any-bad known-place-refused known-close-gap known-bad-order known-open-gap known-price-held known-is-refused))
-
-  take-meets : Meets 𝓤 H A take.signature (WpFn 𝓤 H (𝓣 .C) (𝓣 .Λ) code.function) (take.spec 𝓤 H A mem run)
-  take-meets =
-      walk-meets 𝓤 H A take.ended stayed W (goes-gave-slice 𝓤 H A W 3 0 tt (plain (λ _. O.the-row)), (goes-ref 𝓤 H A W 3 1 tt (plain (λ _. usize)), (goes-none 𝓤 H A W 3 (λ _. usize) yes (λ κs x f. refl), (goes-none 𝓤 H A W 3 (λ _. u32) yes (λ κs x f. refl), (goes-gave-slice 𝓤 H A W 3 2 tt (plain (λ _. u64)), tt)))))
-      (take.clauses 𝓤 H A mem run) (WpFn 𝓤 H (𝓣 .C) (𝓣 .Λ) code.function) (WpFn-mono 𝓤 H (W .laws) 𝓣 code.function) take-walks
-
 pub take-spec : {M : Type 1} → stated.statement M
-unfolding code.routine tablesOf
-take-spec 𝓤 H 𝓜 𝓖 𝓡 =
-    entered 𝓤 H (tripleOf 𝓤 H (𝓖 .A) take.signature (take.spec 𝓤 H (𝓖 .A) (𝓜 .mem) (𝓡 .run)))
-    (tables 𝓤 H 𝓜 𝓡 code.env .C) (tables 𝓤 H 𝓜 𝓡 code.env .Λ) #take code.function (code.unfolded 𝓤 H 𝓜 𝓡)
-    (take-meets 𝓤 H (𝓖 .A) (givenOf 𝓤 H 𝓜 𝓖) (𝓜 .mem) (𝓡 .run) (tablesOf 𝓤 H 𝓜 (tables 𝓤 H 𝓜 𝓡 code.env))
-    (cited 𝓤 H (TakeFits 𝓤 H (𝓖 .A) (𝓜 .mem) (𝓡 .run)) 𝓜 𝓡 code.env #take-fits take-fits-def.routine code.calls-auction-lines·take-fits (take-fits-thm.met 𝓤 H 𝓜 𝓖 𝓡))
-    (cited 𝓤 H (AnyBad 𝓤 H (𝓖 .A) (𝓜 .mem) (𝓡 .run)) 𝓜 𝓡 code.env #any-bad any-bad-def.routine code.calls-auction-list·any-bad (any-bad-thm.met 𝓤 H 𝓜 𝓖 𝓡))
-    (cited 𝓤 H (PlaceRefused 𝓤 H (𝓖 .A) (𝓜 .mem) (𝓡 .run)) 𝓜 𝓡 code.env #place-refused place-refused-def.routine code.calls-auction-lines·place-refused (place-refused-thm.met 𝓤 H 𝓜 𝓖 𝓡))
-    (cited 𝓤 H (CloseGap 𝓤 H (𝓖 .A) (𝓜 .mem) (𝓡 .run)) 𝓜 𝓡 code.env #close-gap close-gap-def.routine code.calls-auction-list·close-gap (close-gap-thm.met 𝓤 H 𝓜 𝓖 𝓡))
-    (cited 𝓤 H (BadOrder 𝓤 H (𝓖 .A) (𝓜 .mem) (𝓡 .run)) 𝓜 𝓡 code.env #bad-order bad-order-def.routine code.calls-auction-lines·bad-order (bad-order-thm.met 𝓤 H 𝓜 𝓖 𝓡))
-    (cited 𝓤 H (OpenGap 𝓤 H (𝓖 .A) (𝓜 .mem) (𝓡 .run)) 𝓜 𝓡 code.env #open-gap open-gap-def.routine code.calls-auction-list·open-gap (open-gap-thm.met 𝓤 H 𝓜 𝓖 𝓡))
-    (cited 𝓤 H (PriceHeld 𝓤 H (𝓖 .A) (𝓜 .mem) (𝓡 .run)) 𝓜 𝓡 code.env #price-held price-held-def.routine code.calls-auction-current·price-held (price-held-thm.met 𝓤 H 𝓜 𝓖 𝓡))
-    (cited 𝓤 H (IsRefused 𝓤 H (𝓖 .A) (𝓜 .mem) (𝓡 .run)) 𝓜 𝓡 code.env #is-refused is-refused-def.routine code.calls-auction-lines·is-refused (is-refused-thm.met 𝓤 H 𝓜 𝓖 𝓡)))
+unfolding code.routine
+take-spec 𝓤 H 𝓜 𝓖 𝓡 = walk-proves 𝓤 H 𝓜 𝓖 𝓡 code.env take.ended parameters (take.clauses 𝓤 H (𝓖 .A) (𝓜 .mem) (𝓡 .run)) #take code.function (code.unfolded 𝓤 H 𝓜 𝓡) (λ 𝓣 known κs qs bounds a g are. via 𝓤 _ (fst∗ 𝓤 _ (emp 𝓤))
+    (walk 𝓤 H (𝓖 .A) (givenOf 𝓤 H 𝓜 𝓖) (𝓜 .mem) (𝓡 .run) (κs .0) (κs .1 .0) (κs .1 .1 .0) (qs .0) (qs .1 .0) (qs .1 .1 .0) (a .0) (a .1 .0) (a .1 .1 .0) (a .1 .1 .1 .0) (a .1 .1 .1 .1 .0) (are .0 .0 .1) (are .1 .1 .0 .1) (are .1 .1 .1 .0 .1) (are .1 .1 .1 .1 .0 .0 .1) 𝓣
+    (known .cites (TakeFits 𝓤 H (𝓖 .A) (𝓜 .mem) (𝓡 .run)) code.calls-auction-lines·take-fits (take-fits-thm.met 𝓤 H 𝓜 𝓖 𝓡))
+    (known .cites (AnyBad 𝓤 H (𝓖 .A) (𝓜 .mem) (𝓡 .run)) code.calls-auction-list·any-bad (any-bad-thm.met 𝓤 H 𝓜 𝓖 𝓡))
+    (known .cites (PlaceRefused 𝓤 H (𝓖 .A) (𝓜 .mem) (𝓡 .run)) code.calls-auction-lines·place-refused (place-refused-thm.met 𝓤 H 𝓜 𝓖 𝓡))
+    (known .cites (CloseGap 𝓤 H (𝓖 .A) (𝓜 .mem) (𝓡 .run)) code.calls-auction-list·close-gap (close-gap-thm.met 𝓤 H 𝓜 𝓖 𝓡))
+    (known .cites (BadOrder 𝓤 H (𝓖 .A) (𝓜 .mem) (𝓡 .run)) code.calls-auction-lines·bad-order (bad-order-thm.met 𝓤 H 𝓜 𝓖 𝓡))
+    (known .cites (OpenGap 𝓤 H (𝓖 .A) (𝓜 .mem) (𝓡 .run)) code.calls-auction-list·open-gap (open-gap-thm.met 𝓤 H 𝓜 𝓖 𝓡))
+    (known .cites (PriceHeld 𝓤 H (𝓖 .A) (𝓜 .mem) (𝓡 .run)) code.calls-auction-current·price-held (price-held-thm.met 𝓤 H 𝓜 𝓖 𝓡))
+    (known .cites (IsRefused 𝓤 H (𝓖 .A) (𝓜 .mem) (𝓡 .run)) code.calls-auction-lines·is-refused (is-refused-thm.met 𝓤 H 𝓜 𝓖 𝓡))))

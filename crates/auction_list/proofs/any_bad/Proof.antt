@@ -24,13 +24,13 @@ use prog.Routine.{Routine}
 use prog.Wp.{Heap, Env, Wp, WpFn, Tables, next, afterSeq, afterBlock, afterTurn, atReturn}
 use ghost.Atoms.{Atoms}
 use contract.Monad.{Fun}
-use contract.Running.{givenOf, tables, tablesOf}
+use contract.Running.{givenOf}
 use types.Kit as Kit
 use types.Kit.{Given, Item, Sq, runs, prop, anyQ, atRet, post, ‵, _⊛_, ⋆, _$_, _∵_, !, qed, by, move, keep, drop, rewrite, split, join, fsplit, fjoin, suffices, frame, done}
 use types.Part.{whole, sub, look-in}
 use types.Run.{look, look-raw, init, store, forget, stop, fld, hop, from, load, lit, false-lit, of-opd, bin, and-then, no-more, assigns, assigns-last, land, first, skips, jumps, blocks, branches, returns, loops, Below, again, exec, enter, alloc1, alloc0, params1, pass1, pass0, free1, free0}
 use types.Share.{arr-parts}
-use sound.WpLaws.{FmC, fmOf, WpFn-mono}
+use sound.WpLaws.{FmC, fmOf}
 use denote.RattleType.{owns}
 use denote.Shadow.{pureI}
 use denote.Laws.{Is, shows}
@@ -38,24 +38,21 @@ use denote.Memory.{pointee, shares}
 use denote.Plain.{bool-makes}
 use denote.Builtin.{bool}
 use denote.Ref.{RefT, now}
-use denote.Signature.{plain}
-use denote.Slice.{sliceTy, sliceVal, ShrSlice, Room, heres, codedHoleys, at-slice, slice-vals, shr-slice-tells}
+use denote.Slice.{sliceTy, sliceVal, ShrSlice, Room, heres, codedHoleys, at-slice}
 use denote.Index.{place-is, row, elem-out, elem-back, looks-slice, shuts-slice}
 use denote.Steps.{owned, nothing}
 use denote.Struct.Laws as LL
 use denote.Triple.Statement.{Triple}
 use denote.Triple.Entry.{onEntry}
-use denote.Triple.Spec.{Meets, tripleOf}
-use denote.Triple.Table.{entered, cited}
-use denote.Triple.Walked.{says, Stays, stay-none-slice, walkOf, goes-none-slice, Walks, ends-at, walked, walk-meets}
-use denote.Exit.{yes}
+use denote.Triple.Walked.{says, walkOf, ends-at}
+use Rattle.walks.proofs.Parameters.{Of, shared-slice, stayed}
+use Rattle.walks.proofs.Proved.{walk-proves}
 use Rattle.definitions.specs.Lists.{any}
 use Rattle.auction_definitions.specs.declared.AuctionOrder.{AuctionOrder}
 use Rattle.auction_definitions.specs.Auction.{badOrder}
 use Rattle.auction_definitions.specs.Current.{zeroOrder}
 use Rattle.auction_definitions.proofs.AuctionOrder as O
 use Rattle.auction_definitions.proofs.AuctionOrder.Laws as O′
-use Rattle.auction_lines.proofs.bad_order.Symbol as bad-order-def
 use Rattle.auction_lines.proofs.bad_order.Symbol.{name as #bad-order}
 use Rattle.auction_lines.proofs.bad_order.Met as bad-order-thm
 use Rattle.walks.proofs.Bodies.{past}
@@ -68,8 +65,8 @@ use Rattle.auction_list.proofs.any_bad.Statement as stated
 use Rattle.auction_list.proofs.any_bad.Code as code
 use Rattle.auction_list.proofs.any_bad.Code.Mir as body
 
-abbrev stayed : Stays (any-bad.ended .signature .params) (any-bad.ended .kept)
-stayed = (stay-none-slice (0 ∷ []) tt (plain (λ _. O.the-row)) yes, tt)
+abbrev parameters : Of any-bad.ended
+parameters = (shared-slice 0 tt O.the-row, tt)
 
 -- the type of the local that is a reference
 abbrev ordersTy : Ty
@@ -98,7 +95,7 @@ module _ {M : Type 1} (𝓤 : URA M) (H : Heap 𝓤) (A : Atoms 𝓤) (W : Given
   vals = (vo ∷ [], tt)
 
   abbrev Post : Val → SProp 𝓤
-  Post = walkOf 𝓤 H A any-bad.ended stayed (any-bad.clauses 𝓤 H A mem run) .post (((κ, tt), (q₀, tt), tt, a, vals), tt)
+  Post = walkOf 𝓤 H A any-bad.ended (stayed any-bad.ended parameters) (any-bad.clauses 𝓤 H A mem run) .post (((κ, tt), (q₀, tt), tt, a, vals), tt)
 
   abbrev State : Type 0
   State = Asked badOrder os
@@ -109,7 +106,7 @@ module _ {M : Type 1} (𝓤 : URA M) (H : Heap 𝓤) (A : Atoms 𝓤) (W : Given
   exits : (r : Bool) → r ≡ any badOrder os → ent 𝓤 (⋆ 𝓤 H A (Owned [])) (Post (vbool r))
   exits r promise =
       qed W (Owned []) ∵
-      suffices ! _ (ends-at 𝓤 H A any-bad.ended stayed (any-bad.clauses 𝓤 H A mem run) W (((κ, tt), (q₀, tt), tt, a, vals), tt) (vbool r) r (tt, tt) (tt, tt)) $ says ! promise $
+      suffices ! _ (ends-at 𝓤 H A any-bad.ended (stayed any-bad.ended parameters) (any-bad.clauses 𝓤 H A mem run) W (((κ, tt), (q₀, tt), tt, a, vals), tt) (vbool r) r (tt, tt) (tt, tt)) $ says ! promise $
       -- the token
       nothing ! $ move ! (3 ∷ 0 ∷ []) $ join ! $ frame ! $
       -- [the fractured borrow; its res]
@@ -230,21 +227,8 @@ module _ {M : Type 1} (𝓤 : URA M) (H : Heap 𝓤) (A : Atoms 𝓤) (W : Given
         keep ! (3 ∷ 2 ∷ 0 ∷ 19 ∷ 17 ∷ 15 ∷ 13 ∷ 11 ∷ 9 ∷ 7 ∷ 5 ∷ 20 ∷ 18 ∷ 16 ∷ 14 ∷ 12 ∷ 10 ∷ 8 ∷ 6 ∷ []) $
         starts l₀ l₁ l₂ l₃ l₄ l₅ l₆ l₇))))))))
 
-module _ {M : Type 1} (𝓤 : URA M) (H : Heap 𝓤) (A : Atoms 𝓤) (W : Given 𝓤 H A) (mem : Memory → SProp 𝓤) (run : Routine → Fun 𝓤) (𝓣 : Tables 𝓤 H) (known-bad-order : Triple 𝓤 (𝓣 .C #bad-order) (BadOrder 𝓤 H A mem run)) where
-  any-bad-walks : Walks 𝓤 H A any-bad.ended stayed (WpFn 𝓤 H (𝓣 .C) (𝓣 .Λ) code.function) (any-bad.clauses 𝓤 H A mem run)
-  any-bad-walks = walked 𝓤 H A any-bad.ended stayed (any-bad.clauses 𝓤 H A mem run) (WpFn 𝓤 H (𝓣 .C) (𝓣 .Λ) code.function) (λ κs. (slice-vals, tt))
-      (λ κs. (shr-slice-tells (named 0) (κs .0) O.the-row, tt))
-      (λ κs qs bounds a g are. via 𝓤 _ (fst∗ 𝓤 _ (emp 𝓤)) (walk 𝓤 H A W mem run (κs .0) (qs .0) (a .0) (are .0 .0 .1) 𝓣 known-bad-order))
-
-  any-bad-meets : Meets 𝓤 H A any-bad.signature (WpFn 𝓤 H (𝓣 .C) (𝓣 .Λ) code.function) (any-bad.spec 𝓤 H A mem run)
-  any-bad-meets =
-      walk-meets 𝓤 H A any-bad.ended stayed W (goes-none-slice 𝓤 H A W 1 (0 ∷ []) tt (plain (λ _. O.the-row)) yes, tt)
-      (any-bad.clauses 𝓤 H A mem run) (WpFn 𝓤 H (𝓣 .C) (𝓣 .Λ) code.function) (WpFn-mono 𝓤 H (W .laws) 𝓣 code.function) any-bad-walks
-
 pub any-bad-spec : {M : Type 1} → stated.statement M
-unfolding code.routine tablesOf
-any-bad-spec 𝓤 H 𝓜 𝓖 𝓡 =
-    entered 𝓤 H (tripleOf 𝓤 H (𝓖 .A) any-bad.signature (any-bad.spec 𝓤 H (𝓖 .A) (𝓜 .mem) (𝓡 .run)))
-    (tables 𝓤 H 𝓜 𝓡 code.env .C) (tables 𝓤 H 𝓜 𝓡 code.env .Λ) #any-bad code.function (code.unfolded 𝓤 H 𝓜 𝓡)
-    (any-bad-meets 𝓤 H (𝓖 .A) (givenOf 𝓤 H 𝓜 𝓖) (𝓜 .mem) (𝓡 .run) (tablesOf 𝓤 H 𝓜 (tables 𝓤 H 𝓜 𝓡 code.env))
-    (cited 𝓤 H (BadOrder 𝓤 H (𝓖 .A) (𝓜 .mem) (𝓡 .run)) 𝓜 𝓡 code.env #bad-order bad-order-def.routine code.calls-auction-lines·bad-order (bad-order-thm.met 𝓤 H 𝓜 𝓖 𝓡)))
+unfolding code.routine
+any-bad-spec 𝓤 H 𝓜 𝓖 𝓡 = walk-proves 𝓤 H 𝓜 𝓖 𝓡 code.env any-bad.ended parameters (any-bad.clauses 𝓤 H (𝓖 .A) (𝓜 .mem) (𝓡 .run)) #any-bad code.function (code.unfolded 𝓤 H 𝓜 𝓡) (λ 𝓣 known κs qs bounds a g are. via 𝓤 _ (fst∗ 𝓤 _ (emp 𝓤))
+    (walk 𝓤 H (𝓖 .A) (givenOf 𝓤 H 𝓜 𝓖) (𝓜 .mem) (𝓡 .run) (κs .0) (qs .0) (a .0) (are .0 .0 .1) 𝓣
+    (known .cites (BadOrder 𝓤 H (𝓖 .A) (𝓜 .mem) (𝓡 .run)) code.calls-auction-lines·bad-order (bad-order-thm.met 𝓤 H 𝓜 𝓖 𝓡))))

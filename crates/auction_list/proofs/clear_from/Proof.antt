@@ -23,36 +23,33 @@ use prog.Routine.{Routine}
 use prog.Wp.{Heap, Env, Wp, WpFn, Tables, next, afterSeq, afterBlock, afterTurn, atReturn}
 use ghost.Atoms.{Atoms}
 use contract.Monad.{Fun}
-use contract.Running.{givenOf, tables, tablesOf}
+use contract.Running.{givenOf}
 use types.Kit as Kit
 use types.Kit.{Given, Item, Sq, runs, prop, anyQ, atRet, post, ‵, _⊛_, ⋆, _$_, _∵_, !, qed, by, move, keep, drop, rewrite, use1, split, join, fsplit, fjoin, feqI, suffices, frame, done}
 use types.Part.{whole, sub, look-in}
 use types.Run.{look, init, store, store-raw, forget, stop, fld, hop, from, load, lit, unit-lit, of-opd, bin, no-more, assigns, assigns-last, land, first, skips, jumps, blocks, branches, returns, loops, Below, again, exec, enter, alloc1, alloc0, params1, pass1, pass0, free1, free0}
-use sound.WpLaws.{FmC, fmOf, WpFn-mono}
+use sound.WpLaws.{FmC, fmOf}
 use denote.RattleType.{owns}
 use denote.Laws.{Is, shows}
 use denote.Memory.{pointee}
-use denote.Plain.{uint-vals, uint-tells, uint-makes}
+use denote.Plain.{uint-makes}
 use denote.Builtin.{usize}
 use denote.Ref.{RefT, now}
-use denote.Signature.{plain}
-use denote.Slice.{sliceTy, sliceVal, MutSlice, Room, finally, res-finally, heres, codedHoleys, slice-vals, mut-slice-tells}
+use denote.Slice.{sliceTy, sliceVal, MutSlice, Room, finally, res-finally, heres, codedHoleys}
 use denote.Lend.{Held}
 use denote.Index.{place-is, row, elem-out, elem-put, opens-slice, closes-slice}
 use denote.Steps.{owned, nothing}
 use denote.Struct.Laws as LL
 use denote.Triple.Statement.{Triple}
 use denote.Triple.Entry.{onEntry}
-use denote.Triple.Spec.{Meets, tripleOf}
-use denote.Triple.Table.{entered, cited}
-use denote.Triple.Walked.{says, Stays, gave-slice, stay-none, walkOf, goes-gave-slice, goes-none, Walks, ends-at, walked, walk-meets}
-use denote.Exit.{yes}
+use denote.Triple.Walked.{says, walkOf, ends-at}
+use Rattle.walks.proofs.Parameters.{Of, gave-slice, number, stayed}
+use Rattle.walks.proofs.Proved.{walk-proves}
 use Rattle.auction_definitions.specs.declared.AuctionOrder.{AuctionOrder}
 use Rattle.auction_definitions.specs.Current.{zeroOrder}
 use Rattle.auction_list.specs.Gaps.{zeroFrom}
 use Rattle.auction_definitions.proofs.AuctionOrder as O
 use Rattle.auction_definitions.proofs.AuctionOrder.Laws as O′
-use Rattle.auction_lines.proofs.zero_order.Symbol as zero-order-def
 use Rattle.auction_lines.proofs.zero_order.Symbol.{name as #zero-order}
 use Rattle.auction_lines.proofs.zero_order.Met as zero-order-thm
 use Rattle.walks.proofs.Bodies.{past}
@@ -66,8 +63,8 @@ use Rattle.auction_list.proofs.clear_from.Statement as stated
 use Rattle.auction_list.proofs.clear_from.Code as code
 use Rattle.auction_list.proofs.clear_from.Code.Mir as body
 
-abbrev stayed : Stays (clear-from.ended .signature .params) (clear-from.ended .kept)
-stayed = (gave-slice (0 ∷ []) tt (plain (λ _. O.the-row)), (stay-none (λ _. usize) yes, tt))
+abbrev parameters : Of clear-from.ended
+parameters = (gave-slice 0 tt O.the-row, (number w64, tt))
 
 -- the type of the local that is a reference
 abbrev ordersTy : Ty
@@ -96,7 +93,7 @@ module _ {M : Type 1} (𝓤 : URA M) (H : Heap 𝓤) (A : Atoms 𝓤) (W : Given
   vals = (vo ∷ [], (vint w64 place ∷ [], tt))
 
   abbrev Post : Val → SProp 𝓤
-  Post = walkOf 𝓤 H A clear-from.ended stayed (clear-from.clauses 𝓤 H A mem run) .post (((κ, tt), (q, tt), tt, a, vals), tt)
+  Post = walkOf 𝓤 H A clear-from.ended (stayed clear-from.ended parameters) (clear-from.clauses 𝓤 H A mem run) .post (((κ, tt), (q, tt), tt, a, vals), tt)
 
   abbrev State : Type 0
   State = Clearing zeroOrder place os
@@ -107,7 +104,7 @@ module _ {M : Type 1} (𝓤 : URA M) (H : Heap 𝓤) (A : Atoms 𝓤) (W : Given
   exits : (vs : List AuctionOrder) → length vs ≡ n → vs ≡ zeroFrom place os → ent 𝓤 (⋆ 𝓤 H A (‵ (finally O.the-row (xo .name) vs) ∷ ‵ (flft κ q) ∷ [])) (Post vunit)
   exits vs long promise =
       qed W (‵ (finally O.the-row (xo .name) vs) ∷ ‵ (flft κ q) ∷ []) ∵
-      suffices ! _ (ends-at 𝓤 H A clear-from.ended stayed (clear-from.clauses 𝓤 H A mem run) W (((κ, tt), (q, tt), tt, a, vals), tt) vunit tt (vs, (tt, tt)) (long, (tt, tt))) $ says ! promise $
+      suffices ! _ (ends-at 𝓤 H A clear-from.ended (stayed clear-from.ended parameters) (clear-from.clauses 𝓤 H A mem run) W (((κ, tt), (q, tt), tt, a, vals), tt) vunit tt (vs, (tt, tt)) (long, (tt, tt))) $ says ! promise $
       -- the token
       nothing ! $ move ! (2 ∷ 0 ∷ []) $ join ! $ frame ! $
       -- [what says how the list ends]
@@ -231,21 +228,8 @@ module _ {M : Type 1} (𝓤 : URA M) (H : Heap 𝓤) (A : Atoms 𝓤) (W : Given
         keep ! (2 ∷ 3 ∷ 0 ∷ 19 ∷ 17 ∷ 15 ∷ 13 ∷ 11 ∷ 9 ∷ 7 ∷ 5 ∷ 20 ∷ 18 ∷ 16 ∷ 14 ∷ 12 ∷ 10 ∷ 8 ∷ 6 ∷ []) $
         starts l₀ l₁ l₂ l₃ l₄ l₅ l₆ l₇))))))))
 
-module _ {M : Type 1} (𝓤 : URA M) (H : Heap 𝓤) (A : Atoms 𝓤) (W : Given 𝓤 H A) (mem : Memory → SProp 𝓤) (run : Routine → Fun 𝓤) (𝓣 : Tables 𝓤 H) (known-zero-order : Triple 𝓤 (𝓣 .C #zero-order) (ZeroOrder 𝓤 H A mem run)) where
-  clear-from-walks : Walks 𝓤 H A clear-from.ended stayed (WpFn 𝓤 H (𝓣 .C) (𝓣 .Λ) code.function) (clear-from.clauses 𝓤 H A mem run)
-  clear-from-walks = walked 𝓤 H A clear-from.ended stayed (clear-from.clauses 𝓤 H A mem run) (WpFn 𝓤 H (𝓣 .C) (𝓣 .Λ) code.function) (λ κs. (slice-vals, (uint-vals w64, tt)))
-      (λ κs. (mut-slice-tells (named 0) (κs .0) O.the-row, (uint-tells w64, tt)))
-      (λ κs qs bounds a g are. via 𝓤 _ (fst∗ 𝓤 _ (emp 𝓤)) (walk 𝓤 H A W mem run (κs .0) (qs .0) (a .0) (a .1 .0) (are .0 .0 .1) (are .1 .0 .1) 𝓣 known-zero-order))
-
-  clear-from-meets : Meets 𝓤 H A clear-from.signature (WpFn 𝓤 H (𝓣 .C) (𝓣 .Λ) code.function) (clear-from.spec 𝓤 H A mem run)
-  clear-from-meets =
-      walk-meets 𝓤 H A clear-from.ended stayed W (goes-gave-slice 𝓤 H A W 1 0 tt (plain (λ _. O.the-row)), (goes-none 𝓤 H A W 1 (λ _. usize) yes (λ κs x f. refl), tt))
-      (clear-from.clauses 𝓤 H A mem run) (WpFn 𝓤 H (𝓣 .C) (𝓣 .Λ) code.function) (WpFn-mono 𝓤 H (W .laws) 𝓣 code.function) clear-from-walks
-
 pub clear-from-spec : {M : Type 1} → stated.statement M
-unfolding code.routine tablesOf
-clear-from-spec 𝓤 H 𝓜 𝓖 𝓡 =
-    entered 𝓤 H (tripleOf 𝓤 H (𝓖 .A) clear-from.signature (clear-from.spec 𝓤 H (𝓖 .A) (𝓜 .mem) (𝓡 .run)))
-    (tables 𝓤 H 𝓜 𝓡 code.env .C) (tables 𝓤 H 𝓜 𝓡 code.env .Λ) #clear-from code.function (code.unfolded 𝓤 H 𝓜 𝓡)
-    (clear-from-meets 𝓤 H (𝓖 .A) (givenOf 𝓤 H 𝓜 𝓖) (𝓜 .mem) (𝓡 .run) (tablesOf 𝓤 H 𝓜 (tables 𝓤 H 𝓜 𝓡 code.env))
-    (cited 𝓤 H (ZeroOrder 𝓤 H (𝓖 .A) (𝓜 .mem) (𝓡 .run)) 𝓜 𝓡 code.env #zero-order zero-order-def.routine code.calls-auction-lines·zero-order (zero-order-thm.met 𝓤 H 𝓜 𝓖 𝓡)))
+unfolding code.routine
+clear-from-spec 𝓤 H 𝓜 𝓖 𝓡 = walk-proves 𝓤 H 𝓜 𝓖 𝓡 code.env clear-from.ended parameters (clear-from.clauses 𝓤 H (𝓖 .A) (𝓜 .mem) (𝓡 .run)) #clear-from code.function (code.unfolded 𝓤 H 𝓜 𝓡) (λ 𝓣 known κs qs bounds a g are. via 𝓤 _ (fst∗ 𝓤 _ (emp 𝓤))
+    (walk 𝓤 H (𝓖 .A) (givenOf 𝓤 H 𝓜 𝓖) (𝓜 .mem) (𝓡 .run) (κs .0) (qs .0) (a .0) (a .1 .0) (are .0 .0 .1) (are .1 .0 .1) 𝓣
+    (known .cites (ZeroOrder 𝓤 H (𝓖 .A) (𝓜 .mem) (𝓡 .run)) code.calls-auction-lines·zero-order (zero-order-thm.met 𝓤 H 𝓜 𝓖 𝓡))))

@@ -20,37 +20,34 @@ use prog.Routine.{Routine}
 use prog.Wp.{Heap, Env, Wp, WpFn, Tables, next, afterSeq, afterBlock, afterTurn, atReturn}
 use ghost.Atoms.{Atoms}
 use contract.Monad.{Fun}
-use contract.Running.{givenOf, tables, tablesOf}
+use contract.Running.{givenOf}
 use types.Kit as Kit
 use types.Kit.{Given, Item, Sq, runs, prop, anyQ, atRet, post, ‵, _⊛_, ⋆, _$_, _∵_, !, qed, by, move, keep, drop, rewrite, split, join, fsplit, fjoin, suffices, frame, done}
 use types.Part.{whole, sub, look-in}
 use types.Run.{look, look-raw, init, store, store-raw, forget, stop, fld, hop, from, load, lit, of-opd, bin, no-more, assigns, assigns-last, land, first, skips, jumps, blocks, branches, returns, loops, Below, again, exec, enter, alloc1, alloc0, params1, pass1, pass0, free1, free0}
-use sound.WpLaws.{FmC, fmOf, WpFn-mono}
+use sound.WpLaws.{FmC, fmOf}
 use denote.RattleType.{owns}
 use denote.Shadow.{pureI}
 use denote.Laws.{Is, shows}
 use denote.Memory.{pointee}
-use denote.Plain.{uint-vals, uint-tells, uint-makes}
+use denote.Plain.{uint-makes}
 use denote.Builtin.{usize}
 use denote.Ref.{RefT, now, at-last}
-use denote.Signature.{plain}
-use denote.Slice.{sliceTy, sliceVal, MutSlice, Room, heres, codedHoleys, at-slice, slice-vals, mut-slice-tells}
+use denote.Slice.{sliceTy, sliceVal, MutSlice, Room, heres, codedHoleys, at-slice}
 use denote.Lend.{Held}
 use denote.Index.{place-is, row, elem-out, elem-put, opens-slice, closes-slice}
 use denote.Steps.{owned, nothing}
 use denote.Struct.Laws as LL
 use denote.Triple.Statement.{Triple}
 use denote.Triple.Entry.{onEntry}
-use denote.Triple.Spec.{Meets, tripleOf}
-use denote.Triple.Table.{entered, cited}
-use denote.Triple.Walked.{says, needs, Stays, stay-none, stay-slice, walkOf, goes-none, goes-slice, Walks, ends-at, walked, walk-meets}
-use denote.Exit.{yes}
+use denote.Triple.Walked.{says, needs, walkOf, ends-at}
+use Rattle.walks.proofs.Parameters.{Of, kept-slice, number, stayed}
+use Rattle.walks.proofs.Proved.{walk-proves}
 use Rattle.auction_definitions.specs.declared.AuctionOrder.{AuctionOrder}
 use Rattle.auction_definitions.specs.Current.{zeroOrder}
 use Rattle.auction_list.specs.Gaps.{gapClosed}
 use Rattle.auction_definitions.proofs.AuctionOrder as O
 use Rattle.auction_definitions.proofs.AuctionOrder.Laws as O′
-use Rattle.auction_lines.proofs.zero_order.Symbol as zero-order-def
 use Rattle.auction_lines.proofs.zero_order.Symbol.{name as #zero-order}
 use Rattle.auction_lines.proofs.zero_order.Met as zero-order-thm
 use Rattle.walks.proofs.Bodies.{past}
@@ -63,8 +60,8 @@ use Rattle.auction_list.proofs.close_gap.Statement as stated
 use Rattle.auction_list.proofs.close_gap.Code as code
 use Rattle.auction_list.proofs.close_gap.Code.Mir as body
 
-abbrev stayed : Stays (gap.ended .signature .params) (gap.ended .kept)
-stayed = (stay-slice (0 ∷ []) tt (plain (λ _. O.the-row)), (stay-none (λ _. usize) yes, (stay-none (λ _. usize) yes, tt)))
+abbrev parameters : Of gap.ended
+parameters = (kept-slice 0 tt O.the-row, (number w64, (number w64, tt)))
 
 -- the type of the local that is the slice
 abbrev ordersTy : Ty
@@ -93,7 +90,7 @@ module _ {M : Type 1} (𝓤 : URA M) (H : Heap 𝓤) (A : Atoms 𝓤) (W : Given
   vals = (slice ∷ [], (vint w64 place ∷ [], (vint w64 count ∷ [], tt)))
 
   abbrev Post : Val → SProp 𝓤
-  Post = walkOf 𝓤 H A gap.ended stayed (gap.clauses 𝓤 H A mem run) .post (((κ, tt), (q, tt), tt, a, vals), tt)
+  Post = walkOf 𝓤 H A gap.ended (stayed gap.ended parameters) (gap.clauses 𝓤 H A mem run) .post (((κ, tt), (q, tt), tt, a, vals), tt)
 
   abbrev Promised : AuctionOrder → List AuctionOrder → Type 0
   Promised r ys = (r ≡ getD xs place zeroOrder) × (ys ≡ gapClosed place count xs)
@@ -105,7 +102,7 @@ module _ {M : Type 1} (𝓤 : URA M) (H : Heap 𝓤) (A : Atoms 𝓤) (W : Given
   exits : (r : AuctionOrder) (ys : List AuctionOrder) → Is O.the-row r (O′.lowered r ∷ []) → length ys ≡ length xs → Promised r ys → ent 𝓤 (⋆ 𝓤 H A (Owned ys [])) (Post (O′.lowered r))
   exits r ys is long promise =
       qed W (Owned ys []) ∵
-      suffices ! _ (ends-at 𝓤 H A gap.ended stayed (gap.clauses 𝓤 H A mem run) W (((κ, tt), (q, tt), tt, a, vals), tt) (O′.lowered r) r (ys, (tt, (tt, tt))) (long, (tt, (tt, tt)))) $ says ! promise $
+      suffices ! _ (ends-at 𝓤 H A gap.ended (stayed gap.ended parameters) (gap.clauses 𝓤 H A mem run) W (((κ, tt), (q, tt), tt, a, vals), tt) (O′.lowered r) r (ys, (tt, (tt, tt))) (long, (tt, (tt, tt)))) $ says ! promise $
       -- the token
       nothing ! $ move ! (3 ∷ 0 ∷ []) $ join ! $ frame ! $
       -- [obs; the borrow]: with the fact on the machine value it is what the slice owns
@@ -253,23 +250,8 @@ module _ {M : Type 1} (𝓤 : URA M) (H : Heap 𝓤) (A : Atoms 𝓤) (W : Given
         keep ! (2 ∷ 3 ∷ 0 ∷ 27 ∷ 25 ∷ 23 ∷ 21 ∷ 19 ∷ 17 ∷ 15 ∷ 13 ∷ 11 ∷ 9 ∷ 7 ∷ 5 ∷ 28 ∷ 26 ∷ 24 ∷ 22 ∷ 20 ∷ 18 ∷ 16 ∷ 14 ∷ 12 ∷ 10 ∷ 8 ∷ 6 ∷ []) $
         starts l₀ l₁ l₂ l₃ l₄ l₅ l₆ l₇ l₈ l₉ l₁₀ l₁₁))))))))))))
 
-module _ {M : Type 1} (𝓤 : URA M) (H : Heap 𝓤) (A : Atoms 𝓤) (W : Given 𝓤 H A) (mem : Memory → SProp 𝓤) (run : Routine → Fun 𝓤) (𝓣 : Tables 𝓤 H)
-    (known-zero-order : Triple 𝓤 (𝓣 .C #zero-order) (ZeroOrder 𝓤 H A mem run)) where
-  close-gap-walks : Walks 𝓤 H A gap.ended stayed (WpFn 𝓤 H (𝓣 .C) (𝓣 .Λ) code.function) (gap.clauses 𝓤 H A mem run)
-  close-gap-walks = walked 𝓤 H A gap.ended stayed (gap.clauses 𝓤 H A mem run) (WpFn 𝓤 H (𝓣 .C) (𝓣 .Λ) code.function) (λ κs. (slice-vals, (uint-vals w64, (uint-vals w64, tt))))
-      (λ κs. (mut-slice-tells (named 0) (κs .0) O.the-row, (uint-tells w64, (uint-tells w64, tt))))
-      (λ κs qs bounds a g are. needs 𝓤 ((a .1 .0 < a .1 .1 .0) × (a .1 .1 .0 ≤ length (now (a .0)))) _ (λ need.
-      walk 𝓤 H A W mem run (κs .0) (qs .0) (a .0) (a .1 .0) (a .1 .1 .0) (are .0 .0 .1) (are .1 .0 .1) (are .1 .1 .0 .1) (need .0) (need .1) 𝓣 known-zero-order))
-
-  close-gap-meets : Meets 𝓤 H A gap.signature (WpFn 𝓤 H (𝓣 .C) (𝓣 .Λ) code.function) (gap.spec 𝓤 H A mem run)
-  close-gap-meets =
-      walk-meets 𝓤 H A gap.ended stayed W (goes-slice 𝓤 H A W 1 0 tt (plain (λ _. O.the-row)), (goes-none 𝓤 H A W 1 (λ _. usize) yes (λ κs x f. refl), (goes-none 𝓤 H A W 1 (λ _. usize) yes (λ κs x f. refl), tt)))
-      (gap.clauses 𝓤 H A mem run) (WpFn 𝓤 H (𝓣 .C) (𝓣 .Λ) code.function) (WpFn-mono 𝓤 H (W .laws) 𝓣 code.function) close-gap-walks
-
 pub close-gap-spec : {M : Type 1} → stated.statement M
-unfolding code.routine tablesOf
-close-gap-spec 𝓤 H 𝓜 𝓖 𝓡 =
-    entered 𝓤 H (tripleOf 𝓤 H (𝓖 .A) gap.signature (gap.spec 𝓤 H (𝓖 .A) (𝓜 .mem) (𝓡 .run)))
-    (tables 𝓤 H 𝓜 𝓡 code.env .C) (tables 𝓤 H 𝓜 𝓡 code.env .Λ) #close-gap code.function (code.unfolded 𝓤 H 𝓜 𝓡)
-    (close-gap-meets 𝓤 H (𝓖 .A) (givenOf 𝓤 H 𝓜 𝓖) (𝓜 .mem) (𝓡 .run) (tablesOf 𝓤 H 𝓜 (tables 𝓤 H 𝓜 𝓡 code.env))
-    (cited 𝓤 H (ZeroOrder 𝓤 H (𝓖 .A) (𝓜 .mem) (𝓡 .run)) 𝓜 𝓡 code.env #zero-order zero-order-def.routine code.calls-auction-lines·zero-order (zero-order-thm.met 𝓤 H 𝓜 𝓖 𝓡)))
+unfolding code.routine
+close-gap-spec 𝓤 H 𝓜 𝓖 𝓡 = walk-proves 𝓤 H 𝓜 𝓖 𝓡 code.env gap.ended parameters (gap.clauses 𝓤 H (𝓖 .A) (𝓜 .mem) (𝓡 .run)) #close-gap code.function (code.unfolded 𝓤 H 𝓜 𝓡) (λ 𝓣 known κs qs bounds a g are. needs 𝓤 ((a .1 .0 < a .1 .1 .0) × (a .1 .1 .0 ≤ length (now (a .0)))) _ (λ need.
+    walk 𝓤 H (𝓖 .A) (givenOf 𝓤 H 𝓜 𝓖) (𝓜 .mem) (𝓡 .run) (κs .0) (qs .0) (a .0) (a .1 .0) (a .1 .1 .0) (are .0 .0 .1) (are .1 .0 .1) (are .1 .1 .0 .1) (need .0) (need .1) 𝓣
+    (known .cites (ZeroOrder 𝓤 H (𝓖 .A) (𝓜 .mem) (𝓡 .run)) code.calls-auction-lines·zero-order (zero-order-thm.met 𝓤 H 𝓜 𝓖 𝓡))))

@@ -23,30 +23,27 @@ use prog.Routine.{Routine}
 use prog.Wp.{Heap, Env, Wp, WpFn, Tables, next, afterSeq, afterBlock, afterTurn, atReturn}
 use ghost.Atoms.{Atoms}
 use contract.Monad.{Fun}
-use contract.Running.{givenOf, tables, tablesOf}
+use contract.Running.{givenOf}
 use types.Kit as Kit
 use types.Kit.{Given, Item, Sq, runs, prop, anyQ, atRet, post, ‵, _⊛_, ⋆, _$_, _∵_, !, qed, by, move, keep, drop, rewrite, split, join, fsplit, fjoin, suffices, frame, done}
 use types.Part.{whole, sub, look-in}
 use types.Run.{look, look-raw, init, store, store-raw, forget, stop, fld, hop, from, load, lit, of-opd, bin, assigns, assigns-last, first, skips, jumps, blocks, branches, returns, loops, Below, again, exec, enter, alloc1, alloc0, params1, pass1, pass0, free1, free0}
-use sound.WpLaws.{WpFn-mono}
 use denote.RattleType.{owns}
 use denote.Shadow.{pureI}
 use denote.Laws.{Is, shows}
 use denote.Memory.{pointee}
-use denote.Plain.{uint-vals, uint-tells, uint-makes}
+use denote.Plain.{uint-makes}
 use denote.Builtin.{usize}
 use denote.Ref.{RefT, now, at-last}
-use denote.Signature.{plain}
-use denote.Slice.{sliceTy, sliceVal, MutSlice, Room, heres, codedHoleys, at-slice, slice-vals, mut-slice-tells}
+use denote.Slice.{sliceTy, sliceVal, MutSlice, Room, heres, codedHoleys, at-slice}
 use denote.Lend.{Held}
 use denote.Index.{place-is, row, elem-out, elem-put, opens-slice, closes-slice}
 use denote.Steps.{owned, nothing}
 use denote.Struct.Laws as LL
 use denote.Triple.Entry.{onEntry}
-use denote.Triple.Spec.{Meets, tripleOf}
-use denote.Triple.Table.{entered}
-use denote.Triple.Walked.{says, needs, Stays, stay-none, stay-slice, walkOf, goes-none, goes-slice, Walks, ends-at, walked, walk-meets}
-use denote.Exit.{yes}
+use denote.Triple.Walked.{says, needs, walkOf, ends-at}
+use Rattle.walks.proofs.Parameters.{Of, kept-slice, number, value, stayed}
+use Rattle.walks.proofs.Proved.{walk-proves}
 use Rattle.auction_definitions.specs.declared.AuctionOrder.{AuctionOrder}
 use Rattle.auction_definitions.specs.Current.{zeroOrder}
 use Rattle.auction_list.specs.Gaps.{gapOpened}
@@ -61,8 +58,8 @@ use Rattle.auction_list.proofs.open_gap.Statement as stated
 use Rattle.auction_list.proofs.open_gap.Code as code
 use Rattle.auction_list.proofs.open_gap.Code.Mir as body
 
-abbrev stayed : Stays (gap.ended .signature .params) (gap.ended .kept)
-stayed = (stay-slice (0 ∷ []) tt (plain (λ _. O.the-row)), (stay-none (λ _. usize) yes, (stay-none (λ _. usize) yes, (stay-none (λ _. O.the-row) yes, tt))))
+abbrev parameters : Of gap.ended
+parameters = (kept-slice 0 tt O.the-row, (number w64, (number w64, (value O.the-row (λ y. O′.lowered y ∷ []) (O′.lowers .val-is) (λ x f. refl), tt))))
 
 -- the type of the local that is the slice
 abbrev ordersTy : Ty
@@ -91,7 +88,7 @@ module _ {M : Type 1} (𝓤 : URA M) (H : Heap 𝓤) (A : Atoms 𝓤) (W : Given
   vals = (slice ∷ [], (vint w64 place ∷ [], (vint w64 count ∷ [], (O′.lowered order ∷ [], tt))))
 
   abbrev Post : Val → SProp 𝓤
-  Post = walkOf 𝓤 H A gap.ended stayed (gap.clauses 𝓤 H A mem run) .post (((κ, tt), (q, tt), tt, a, vals), tt)
+  Post = walkOf 𝓤 H A gap.ended (stayed gap.ended parameters) (gap.clauses 𝓤 H A mem run) .post (((κ, tt), (q, tt), tt, a, vals), tt)
 
   abbrev Promised : AuctionOrder → List AuctionOrder → Type 0
   Promised r ys = (r ≡ getD xs (count - 1) zeroOrder) × (ys ≡ gapOpened place count order xs)
@@ -103,7 +100,7 @@ module _ {M : Type 1} (𝓤 : URA M) (H : Heap 𝓤) (A : Atoms 𝓤) (W : Given
   exits : (r : AuctionOrder) (ys : List AuctionOrder) → Is O.the-row r (O′.lowered r ∷ []) → length ys ≡ length xs → Promised r ys → ent 𝓤 (⋆ 𝓤 H A (Owned ys [])) (Post (O′.lowered r))
   exits r ys is long promise =
       qed W (Owned ys []) ∵
-      suffices ! _ (ends-at 𝓤 H A gap.ended stayed (gap.clauses 𝓤 H A mem run) W (((κ, tt), (q, tt), tt, a, vals), tt) (O′.lowered r) r (ys, (tt, (tt, (tt, tt)))) (long, (tt, (tt, (tt, tt))))) $ says ! promise $
+      suffices ! _ (ends-at 𝓤 H A gap.ended (stayed gap.ended parameters) (gap.clauses 𝓤 H A mem run) W (((κ, tt), (q, tt), tt, a, vals), tt) (O′.lowered r) r (ys, (tt, (tt, (tt, tt)))) (long, (tt, (tt, (tt, tt))))) $ says ! promise $
       -- the token
       nothing ! $ move ! (3 ∷ 0 ∷ []) $ join ! $ frame ! $
       -- [obs; the borrow]: with the fact on the machine value it is what the slice owns
@@ -247,21 +244,7 @@ module _ {M : Type 1} (𝓤 : URA M) (H : Heap 𝓤) (A : Atoms 𝓤) (W : Given
         keep ! (2 ∷ 3 ∷ 0 ∷ 29 ∷ 27 ∷ 25 ∷ 23 ∷ 21 ∷ 19 ∷ 17 ∷ 15 ∷ 13 ∷ 11 ∷ 9 ∷ 7 ∷ 5 ∷ 30 ∷ 28 ∷ 26 ∷ 24 ∷ 22 ∷ 20 ∷ 18 ∷ 16 ∷ 14 ∷ 12 ∷ 10 ∷ 8 ∷ 6 ∷ []) $
         starts l₀ l₁ l₂ l₃ l₄ l₅ l₆ l₇ l₈ l₉ l₁₀ l₁₁ l₁₂)))))))))))))
 
-module _ {M : Type 1} (𝓤 : URA M) (H : Heap 𝓤) (A : Atoms 𝓤) (W : Given 𝓤 H A) (mem : Memory → SProp 𝓤) (run : Routine → Fun 𝓤) (𝓣 : Tables 𝓤 H) where
-  open-gap-walks : Walks 𝓤 H A gap.ended stayed (WpFn 𝓤 H (𝓣 .C) (𝓣 .Λ) code.function) (gap.clauses 𝓤 H A mem run)
-  open-gap-walks = walked 𝓤 H A gap.ended stayed (gap.clauses 𝓤 H A mem run) (WpFn 𝓤 H (𝓣 .C) (𝓣 .Λ) code.function) (λ κs. (slice-vals, (uint-vals w64, (uint-vals w64, ((λ y. O′.lowered y ∷ []), tt)))))
-      (λ κs. (mut-slice-tells (named 0) (κs .0) O.the-row, (uint-tells w64, (uint-tells w64, (O′.lowers .val-is, tt)))))
-      (λ κs qs bounds a g are. needs 𝓤 ((a .1 .0 < a .1 .1 .0) × (a .1 .1 .0 ≤ length (now (a .0)))) _ (λ need.
-      walk 𝓤 H A W mem run (κs .0) (qs .0) (a .0) (a .1 .0) (a .1 .1 .0) (a .1 .1 .1 .0) (are .0 .0 .1) (are .1 .0 .1) (are .1 .1 .0 .1) (are .1 .1 .1 .0) (need .0) (need .1) 𝓣))
-
-  open-gap-meets : Meets 𝓤 H A gap.signature (WpFn 𝓤 H (𝓣 .C) (𝓣 .Λ) code.function) (gap.spec 𝓤 H A mem run)
-  open-gap-meets =
-      walk-meets 𝓤 H A gap.ended stayed W (goes-slice 𝓤 H A W 1 0 tt (plain (λ _. O.the-row)), (goes-none 𝓤 H A W 1 (λ _. usize) yes (λ κs x f. refl), (goes-none 𝓤 H A W 1 (λ _. usize) yes (λ κs x f. refl), (goes-none 𝓤 H A W 1 (λ _. O.the-row) yes (λ κs x f. refl), tt))))
-      (gap.clauses 𝓤 H A mem run) (WpFn 𝓤 H (𝓣 .C) (𝓣 .Λ) code.function) (WpFn-mono 𝓤 H (W .laws) 𝓣 code.function) open-gap-walks
-
 pub open-gap-spec : {M : Type 1} → stated.statement M
-unfolding code.routine tablesOf
-open-gap-spec 𝓤 H 𝓜 𝓖 𝓡 =
-    entered 𝓤 H (tripleOf 𝓤 H (𝓖 .A) gap.signature (gap.spec 𝓤 H (𝓖 .A) (𝓜 .mem) (𝓡 .run)))
-    (tables 𝓤 H 𝓜 𝓡 code.env .C) (tables 𝓤 H 𝓜 𝓡 code.env .Λ) #open-gap code.function (code.unfolded 𝓤 H 𝓜 𝓡)
-    (open-gap-meets 𝓤 H (𝓖 .A) (givenOf 𝓤 H 𝓜 𝓖) (𝓜 .mem) (𝓡 .run) (tablesOf 𝓤 H 𝓜 (tables 𝓤 H 𝓜 𝓡 code.env)))
+unfolding code.routine
+open-gap-spec 𝓤 H 𝓜 𝓖 𝓡 = walk-proves 𝓤 H 𝓜 𝓖 𝓡 code.env gap.ended parameters (gap.clauses 𝓤 H (𝓖 .A) (𝓜 .mem) (𝓡 .run)) #open-gap code.function (code.unfolded 𝓤 H 𝓜 𝓡) (λ 𝓣 known κs qs bounds a g are. needs 𝓤 ((a .1 .0 < a .1 .1 .0) × (a .1 .1 .0 ≤ length (now (a .0)))) _ (λ need.
+    walk 𝓤 H (𝓖 .A) (givenOf 𝓤 H 𝓜 𝓖) (𝓜 .mem) (𝓡 .run) (κs .0) (qs .0) (a .0) (a .1 .0) (a .1 .1 .0) (a .1 .1 .1 .0) (are .0 .0 .1) (are .1 .0 .1) (are .1 .1 .0 .1) (are .1 .1 .1 .0) (need .0) (need .1) 𝓣))

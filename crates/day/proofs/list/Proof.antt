@@ -20,21 +20,21 @@ use prog.Routine.{Routine}
 use prog.Wp.{Heap, Env, Wp, WpFn, Tables, afterSeq, afterBlock, afterTurn, atReturn}
 use ghost.Atoms.{Atoms, sem}
 use contract.Monad.{Fun, fact}
-use contract.Running.{givenOf, tables, tablesOf}
+use contract.Running.{givenOf}
 use types.Kit as Kit
 use types.Kit.{Given, Item, Sq, runs, anyQ, post, ‵, raw, _⊛_, ⋆, some, later, _$_, _∵_, !, qed, by, move, drop, rewrite, use1, use2, use3, split, split3, join, group, pick, fsplit, fjoin, feqL, feqI, suffices, frame, await, done}
 use types.Part.{whole, sub, look-in, agg}
 use types.Match.{vrt, in-variant, look-tag, by-variants}
 use types.Run.{look, init, store, forget, stop, fld, hop, from, load, lit, unit-lit, of-opd, addr, bin, and-then, no-more, assigns, assigns-last, land, first, blocks, returns-within, loops, Below, again, exec, enter, alloc1, alloc0, params1, pass1, pass0, free1, free0}
 use types.Tokens.{lft-new, lft-end}
-use sound.WpLaws.{FmC, fmOf, WpFn-mono}
+use sound.WpLaws.{FmC, fmOf}
 use denote.RattleType.{RattleType, owns}
 use denote.Laws.{Is, shows}
 use denote.Plain.{uint-makes, nothing-lawful}
 use denote.Builtin.{u8, u32, u64, usize, unit}
 use denote.Ref.{RefT, NamedLft, now}
-use denote.Signature.{plain, namedLft}
-use denote.Slice.{sliceTy, sliceVal, MutSlice, ShrSlice, Room, slice-vals, mut-slice-tells, shr-slice-tells, shr-slice-lawful, shr-slice-copy}
+use denote.Signature.{namedLft}
+use denote.Slice.{sliceTy, sliceVal, MutSlice, ShrSlice, Room, shr-slice-lawful, shr-slice-copy}
 use denote.Steps.{only, owned, peeks, heard, nothing}
 use denote.Enum.Laws as EL
 use denote.Struct.Laws as LL
@@ -42,11 +42,11 @@ use denote.Struct.Rest.{own-shut}
 use denote.Triple.Statement.{Contract, Triple}
 use denote.Triple.Call.{calls-at}
 use denote.Triple.Entry.{onEntry}
-use denote.Triple.Spec.{Meets, tripleOf}
-use denote.Triple.Table.{entered, cited}
-use denote.Triple.Walked.{says, Stays, stay-slice, stay-none-slice, walkOf, goes-slice, goes-none-slice, Walks, ends-at, walked, walk-meets}
-use denote.Exit.{yes}
+use denote.Triple.Spec.{tripleOf}
+use denote.Triple.Walked.{says, walkOf, ends-at}
 use denote.Triple.Clauses.{ensured, lasts}
+use Rattle.walks.proofs.Parameters.{Of, kept-slice, shared-slice, stayed}
+use Rattle.walks.proofs.Proved.{walk-proves}
 use Rattle.definitions.specs.Gate.{eventWords, wordsAfter}
 use Rattle.definitions.specs.Walk.{split as eventsIn}
 use Rattle.reader.specs.Places.{foundAt}
@@ -59,22 +59,18 @@ use Rattle.reader.proofs.EventReader.Laws as T′
 use Rattle.reader.proofs.Found as S
 use Rattle.reader.proofs.Found.Laws as S′
 use Rattle.reader.proofs.reader_at as reader-at
-use Rattle.reader.proofs.reader_at.Symbol as reader-at-def
 use Rattle.reader.proofs.reader_at.Symbol.{name as #reader·reader-at}
 use Rattle.reader.proofs.reader_at.Met as reader-at-thm
 use Rattle.reader.proofs.next as next
-use Rattle.reader.proofs.next.Symbol as next-def
 use Rattle.reader.proofs.next.Symbol.{name as #reader·next}
 use Rattle.reader.proofs.next.Met as next-thm
 use Rattle.reader.proofs.moved as moved
-use Rattle.reader.proofs.moved.Symbol as moved-def
 use Rattle.reader.proofs.moved.Symbol.{name as #reader·moved}
 use Rattle.reader.proofs.moved.Met as moved-thm
 use Rattle.walks.proofs.Again.{LentAgain, lends-again, comes-back}
 use Rattle.walks.proofs.Bodies.{after}
 use Rattle.day.proofs.Listed.{Turn, begin, turn, finish}
 use Rattle.day.proofs.event as event
-use Rattle.day.proofs.event.Symbol as event-def
 use Rattle.day.proofs.event.Symbol.{name as #day·event}
 use Rattle.day.proofs.event.Met as event-thm
 use Rattle.day.proofs.list.Key.{name as #day·list}
@@ -83,8 +79,8 @@ use Rattle.day.proofs.list.Statement as stated
 use Rattle.day.proofs.list.Code as code
 use Rattle.day.proofs.list.Code.Mir as body
 
-abbrev stayed : Stays (list.ended .signature .params) (list.ended .kept)
-stayed = (stay-slice (0 ∷ []) tt (plain (λ _. u32)), (stay-none-slice (1 ∷ []) tt (plain (λ _. u8)) yes, tt))
+abbrev parameters : Of list.ended
+parameters = (kept-slice 0 tt u32, (shared-slice 1 tt u8, tt))
 
 module _ {M : Type 1} (𝓤 : URA M) (H : Heap 𝓤) (A : Atoms 𝓤) (mem : Memory → SProp 𝓤) (run : Routine → Fun 𝓤) where
   -- the contracts that the proof cites
@@ -143,7 +139,7 @@ module _ {M : Type 1} (𝓤 : URA M) (H : Heap 𝓤) (A : Atoms 𝓤) (W : Given
   vals = (wv (length w₀) ∷ [], (v ∷ [], tt))
 
   abbrev Post : Val → SProp 𝓤
-  Post = walkOf 𝓤 H A list.ended stayed (list.clauses 𝓤 H A mem run) .post (((κ, (κ′, tt)), (q, (q′, tt)), tt, a, vals), tt)
+  Post = walkOf 𝓤 H A list.ended (stayed list.ended parameters) (list.clauses 𝓤 H A mem run) .post (((κ, (κ′, tt)), (q, (q′, tt)), tt, a, vals), tt)
 
   bytes-typed : WT v
   bytes-typed = shr-slice-lawful 𝓤 H A W (named 1) κ′ u8 .typed s (v ∷ []) p .0 .1
@@ -221,7 +217,7 @@ module _ {M : Type 1} (𝓤 : URA M) (H : Heap 𝓤) (A : Atoms 𝓤) (W : Given
       → ent 𝓤 (⋆ 𝓤 H A (‵ (Words ws (length ws)) ∷ ‵ Bytes ∷ ‵ (flft κ q) ∷ ‵ (flft κ′ q′) ∷ [])) (Post vunit)
   exits ws e l =
       qed W (‵ (Words ws (length ws)) ∷ ‵ Bytes ∷ ‵ (flft κ q) ∷ ‵ (flft κ′ q′) ∷ []) ∵
-      suffices ! _ (ends-at 𝓤 H A list.ended stayed (list.clauses 𝓤 H A mem run) W (((κ, (κ′, tt)), (q, (q′, tt)), tt, a, vals), tt) vunit tt (ws, (tt, tt)) (l, (tt, tt))) $ says ! e $
+      suffices ! _ (ends-at 𝓤 H A list.ended (stayed list.ended parameters) (list.clauses 𝓤 H A mem run) W (((κ, (κ′, tt)), (q, (q′, tt)), tt, a, vals), tt) vunit tt (ws, (tt, tt)) (l, (tt, tt))) $ says ! e $
       nothing ! $ move ! (4 ∷ 0 ∷ []) $ join ! $ move ! (3 ∷ 0 ∷ []) $ join ! $ frame ! $
       rewrite ! 0 (λ (n : ℕ). ‵ (Words ws n)) l refl $ nothing ! $ move ! (2 ∷ 0 ∷ []) $ fjoin ! $ move ! (1 ∷ 0 ∷ []) $ fjoin ! $ feqI ! (List Val) (vunit ∷ []) (vunit ∷ []) refl $ move ! (1 ∷ 0 ∷ []) $ done !
 
@@ -389,25 +385,11 @@ module _ {M : Type 1} (𝓤 : URA M) (H : Heap 𝓤) (A : Atoms 𝓤) (W : Given
         loops ! 𝓣 ≺ (InvImage·wf left (Nat·lt-wfRel .wf)) (At l₀ l₁ l₂ l₃ l₄ l₅ l₆ l₇ l₈ l₉ l₁₀ l₁₁ l₁₂ l₁₃) (turns l₀ l₁ l₂ l₃ l₄ l₅ l₆ l₇ l₈ l₉ l₁₀ l₁₁ l₁₂ l₁₃)
         (record { words = w₀; at = 0; index = 0; so-far = begin w₀ (now s) })))))))))))))))))))
 
-module _ {M : Type 1} (𝓤 : URA M) (H : Heap 𝓤) (A : Atoms 𝓤) (W : Given 𝓤 H A) (mem : Memory → SProp 𝓤) (run : Routine → Fun 𝓤) (𝓣 : Tables 𝓤 H) (known-reader-at : Triple 𝓤 (𝓣 .C #reader·reader-at) (ReaderAt 𝓤 H A mem run)) (known-next : Triple 𝓤 (𝓣 .C #reader·next) (Next 𝓤 H A mem run))
-    (known-moved : Triple 𝓤 (𝓣 .C #reader·moved) (Moved 𝓤 H A mem run)) (known-event : Triple 𝓤 (𝓣 .C #day·event) (Handed 𝓤 H A mem run)) where
-  list-walks : Walks 𝓤 H A list.ended stayed (WpFn 𝓤 H (𝓣 .C) (𝓣 .Λ) code.function) (list.clauses 𝓤 H A mem run)
-  list-walks = walked 𝓤 H A list.ended stayed (list.clauses 𝓤 H A mem run) (WpFn 𝓤 H (𝓣 .C) (𝓣 .Λ) code.function) (λ κs. (slice-vals, (slice-vals, tt))) (λ κs. (mut-slice-tells (named 0) (κs .0) u32, (shr-slice-tells (named 1) (κs .1 .0) u8, tt)))
-      (λ κs qs bounds a g are. via 𝓤 _ (fst∗ 𝓤 _ (emp 𝓤))
-      (walk 𝓤 H A W mem run (κs .0) (κs .1 .0) (qs .0) (qs .1 .0) (a .0 .ptr .0) (a .0 .ptr .1) (a .0 .name) (a .0 .now) (a .1 .0) (are .1 .0) (are .0 .0 .1) 𝓣 known-reader-at known-next known-moved known-event))
-
-  list-meets : Meets 𝓤 H A list.signature (WpFn 𝓤 H (𝓣 .C) (𝓣 .Λ) code.function) (list.spec 𝓤 H A mem run)
-  list-meets =
-      walk-meets 𝓤 H A list.ended stayed W (goes-slice 𝓤 H A W 2 0 tt (plain (λ _. u32)), (goes-none-slice 𝓤 H A W 2 (1 ∷ []) tt (plain (λ _. u8)) yes, tt)) (list.clauses 𝓤 H A mem run)
-      (WpFn 𝓤 H (𝓣 .C) (𝓣 .Λ) code.function) (WpFn-mono 𝓤 H (W .laws) 𝓣 code.function) list-walks
-
 pub list-spec : {M : Type 1} → stated.statement M
-unfolding code.routine tablesOf
-list-spec 𝓤 H 𝓜 𝓖 𝓡 =
-    entered 𝓤 H (tripleOf 𝓤 H (𝓖 .A) list.signature (list.spec 𝓤 H (𝓖 .A) (𝓜 .mem) (𝓡 .run)))
-    (tables 𝓤 H 𝓜 𝓡 code.env .C) (tables 𝓤 H 𝓜 𝓡 code.env .Λ) #day·list code.function (code.unfolded 𝓤 H 𝓜 𝓡)
-    (list-meets 𝓤 H (𝓖 .A) (givenOf 𝓤 H 𝓜 𝓖) (𝓜 .mem) (𝓡 .run) (tablesOf 𝓤 H 𝓜 (tables 𝓤 H 𝓜 𝓡 code.env))
-    (cited 𝓤 H (ReaderAt 𝓤 H (𝓖 .A) (𝓜 .mem) (𝓡 .run)) 𝓜 𝓡 code.env #reader·reader-at reader-at-def.routine code.calls-reader·reader-at (reader-at-thm.met 𝓤 H 𝓜 𝓖 𝓡))
-    (cited 𝓤 H (Next 𝓤 H (𝓖 .A) (𝓜 .mem) (𝓡 .run)) 𝓜 𝓡 code.env #reader·next next-def.routine code.calls-reader·next (next-thm.met 𝓤 H 𝓜 𝓖 𝓡))
-    (cited 𝓤 H (Moved 𝓤 H (𝓖 .A) (𝓜 .mem) (𝓡 .run)) 𝓜 𝓡 code.env #reader·moved moved-def.routine code.calls-reader·moved (moved-thm.met 𝓤 H 𝓜 𝓖 𝓡))
-    (cited 𝓤 H (Handed 𝓤 H (𝓖 .A) (𝓜 .mem) (𝓡 .run)) 𝓜 𝓡 code.env #day·event event-def.routine code.calls-day·event (event-thm.met 𝓤 H 𝓜 𝓖 𝓡)))
+unfolding code.routine
+list-spec 𝓤 H 𝓜 𝓖 𝓡 = walk-proves 𝓤 H 𝓜 𝓖 𝓡 code.env list.ended parameters (list.clauses 𝓤 H (𝓖 .A) (𝓜 .mem) (𝓡 .run)) #day·list code.function (code.unfolded 𝓤 H 𝓜 𝓡) (λ 𝓣 known κs qs bounds a g are. via 𝓤 _ (fst∗ 𝓤 _ (emp 𝓤))
+    (walk 𝓤 H (𝓖 .A) (givenOf 𝓤 H 𝓜 𝓖) (𝓜 .mem) (𝓡 .run) (κs .0) (κs .1 .0) (qs .0) (qs .1 .0) (a .0 .ptr .0) (a .0 .ptr .1) (a .0 .name) (a .0 .now) (a .1 .0) (are .1 .0) (are .0 .0 .1) 𝓣
+    (known .cites (ReaderAt 𝓤 H (𝓖 .A) (𝓜 .mem) (𝓡 .run)) code.calls-reader·reader-at (reader-at-thm.met 𝓤 H 𝓜 𝓖 𝓡))
+    (known .cites (Next 𝓤 H (𝓖 .A) (𝓜 .mem) (𝓡 .run)) code.calls-reader·next (next-thm.met 𝓤 H 𝓜 𝓖 𝓡))
+    (known .cites (Moved 𝓤 H (𝓖 .A) (𝓜 .mem) (𝓡 .run)) code.calls-reader·moved (moved-thm.met 𝓤 H 𝓜 𝓖 𝓡))
+    (known .cites (Handed 𝓤 H (𝓖 .A) (𝓜 .mem) (𝓡 .run)) code.calls-day·event (event-thm.met 𝓤 H 𝓜 𝓖 𝓡))))

@@ -12,33 +12,32 @@ use base.Logic.{SProp, ent, emp, via, fst∗, snd∗, exE, id⊢}
 use base.Fml.{ftrue, flft, fres}
 use prog.Memory.{Memory}
 use prog.Routine.{Routine}
-use prog.Wp.{Heap, Calls, Loops, WpFn, Tables}
+use prog.Wp.{Heap, WpFn, Tables}
 use ghost.Atoms.{Atoms, sem}
 use contract.Lifetimes.{Lfts, Shares}
 use contract.Monad.{Fun, fact}
-use contract.Running.{givenOf, tables, tablesOf}
+use contract.Running.{givenOf}
 use types.Kit.{Given, Item, ‵, raw, _⊛_, ⋆, some, later, _$_, _∵_, !, qed, by, move, drop, use1, split, join, pick, fsplit, fjoin, feqL, suffices, frame, await, done}
 use types.Run.{look, init, forget, stop, hop, fld, from, load, addr, and-then, no-more, assigns, land, returns, enter, alloc1, alloc0, params1, pass1, pass0, free1, free0}
 use types.Part.{agg, whole, sub, look-in}
-use sound.WpLaws.{FmC, fmOf, WpFn-mono}
+use sound.WpLaws.{fmOf}
 use denote.RattleType.{owns}
 use denote.Laws.{Is, shows}
-use denote.Plain.{uint-makes, uint-vals, uint-tells}
+use denote.Plain.{uint-makes}
 use denote.Builtin.{u32, u64, usize}
-use denote.Ref.{RefT, MutRef, now, ptr-vals, mut-tells}
-use denote.Signature.{plain}
-use denote.Slice.{sliceVal, MutSlice, Room, finally, slice-vals, mut-slice-tells}
+use denote.Ref.{RefT, MutRef, now}
+use denote.Slice.{sliceVal, MutSlice, Room, finally}
 use denote.Steps.{owned, peeks, heard, nothing}
 use denote.Enum.Laws as EL
 use denote.Struct.Laws as LL
 use denote.Triple.Statement.{Contract, Triple}
 use denote.Triple.Call.{calls-at}
 use denote.Triple.Entry.{Args, Vals, onEntry}
-use denote.Triple.Spec.{Meets, tripleOf}
-use denote.Triple.Table.{entered, cited}
-use denote.Triple.Walked.{says, Stays, stay-none, gave-ref, gave-slice, walkOf, AllGo, goes-none, goes-gave-ref, goes-gave-slice, Walks, ends-at, walked, walk-meets}
-use denote.Exit.{yes}
+use denote.Triple.Spec.{tripleOf}
+use denote.Triple.Walked.{says, walkOf, ends-at}
 use denote.Triple.Clauses.{Lasts, ensured, lasts}
+use Rattle.walks.proofs.Parameters.{Of, gave-ref, gave-slice, number, value, stayed}
+use Rattle.walks.proofs.Proved.{walk-proves}
 use Rattle.auction_definitions.specs.Auction.{auctionNumbers}
 use Rattle.auction_definitions.specs.Current.{Add, Lent, callAnswer, lent, lentAfter}
 use Rattle.auction_definitions.specs.declared.AuctionOrder.{AuctionOrder}
@@ -52,11 +51,9 @@ use Rattle.auction_definitions.proofs.AuctionNumbers as N
 use Rattle.auction_definitions.proofs.AuctionNumbers.Laws as N′
 use Rattle.auction_lines.proofs.Typed.{order-typed}
 use Rattle.auction_lines.proofs.numbers_of as numbers-of
-use Rattle.auction_lines.proofs.numbers_of.Symbol as numbers-of-def
 use Rattle.auction_lines.proofs.numbers_of.Symbol.{name as #auction-lines·numbers-of}
 use Rattle.auction_lines.proofs.numbers_of.Met as numbers-of-thm
 use Rattle.auction_current.proofs.add as add
-use Rattle.auction_current.proofs.add.Symbol as add-def
 use Rattle.auction_current.proofs.add.Symbol.{name as #add}
 use Rattle.auction_current.proofs.add.Met as add-thm
 use Rattle.guvontsira.proofs.guvontsira_auction_add.Key.{name as #guvontsira·guvontsira-auction-add}
@@ -64,8 +61,8 @@ use Rattle.guvontsira.proofs.guvontsira_auction_add as exported
 use Rattle.guvontsira.proofs.guvontsira_auction_add.Statement as stated
 use Rattle.guvontsira.proofs.guvontsira_auction_add.Code as code
 
-abbrev stayed : Stays (exported.ended .signature .params) (exported.ended .kept)
-stayed = (gave-slice (0 ∷ []) tt (plain (λ _. O.the-row)), (gave-ref (1 ∷ []) tt (plain (λ _. usize)), (stay-none (λ _. O.the-row) yes, (stay-none (λ _. u32) yes, (gave-slice (2 ∷ []) tt (plain (λ _. u64)), tt)))))
+abbrev parameters : Of exported.ended
+parameters = (gave-slice 0 tt O.the-row, (gave-ref 1 tt usize, (value O.the-row (λ y. O′.lowered y ∷ []) (O′.lowers .val-is) (λ x f. refl), (number w32, (gave-slice 2 tt u64, tt)))))
 
 module _ {M : Type 1} (𝓤 : URA M) (H : Heap 𝓤) (A : Atoms 𝓤) (mem : Memory → SProp 𝓤) (run : Routine → Fun 𝓤) where
   -- the contracts that the proof cites
@@ -94,7 +91,7 @@ module _ {M : Type 1} (𝓤 : URA M) (H : Heap 𝓤) (A : Atoms 𝓤) (W : Given
   vals = (vo ∷ [], (vc ∷ [], (O′.lowered x ∷ [], (vint w32 n ∷ [], (vv ∷ [], tt)))))
 
   abbrev Post : Val → SProp 𝓤
-  Post = walkOf 𝓤 H A exported.ended stayed (exported.clauses 𝓤 H A mem run) .post ((κs, qs, tt, a, vals), tt)
+  Post = walkOf 𝓤 H A exported.ended (stayed exported.ended parameters) (exported.clauses 𝓤 H A mem run) .post ((κs, qs, tt, a, vals), tt)
 
   abbrev tokens : Item 𝓤
   tokens = ‵ (flft (κs .0) (qs .0)) ⊛ ‵ (flft (κs .1 .0) (qs .1 .0)) ⊛ ‵ (flft (κs .1 .1 .0) (qs .1 .1 .0)) ⊛ ‵ ftrue
@@ -128,15 +125,15 @@ module _ {M : Type 1} (𝓤 : URA M) (H : Heap 𝓤) (A : Atoms 𝓤) (W : Given
       → ent 𝓤 (⋆ 𝓤 H A (‵ (N.the-row .own t (u ∷ [])) ∷ tokens ∷ ‵ (finally u64 (v .name) (zs .1 .1 .1 .1 .0)) ∷ ‵ (fres (c .name) (usize .coded .code (zs .1 .0))) ∷ ‵ (finally O.the-row (o .name) (zs .0)) ∷ [])) (Post u)
   exits r t u zs e e′ lo lv =
       qed W (‵ (N.the-row .own t (u ∷ [])) ∷ tokens ∷ ‵ (finally u64 (v .name) (zs .1 .1 .1 .1 .0)) ∷ ‵ (fres (c .name) (usize .coded .code (zs .1 .0))) ∷ ‵ (finally O.the-row (o .name) (zs .0)) ∷ []) ∵
-      suffices ! _ (ends-at 𝓤 H A exported.ended stayed (exported.clauses 𝓤 H A mem run) W ((κs, qs, tt, a, vals), tt) u t zs (lo, (tt, (tt, (tt, (lv, tt)))))) $ says ! (e′ ∙ ap auctionNumbers (e .0), e .1) $
+      suffices ! _ (ends-at 𝓤 H A exported.ended (stayed exported.ended parameters) (exported.clauses 𝓤 H A mem run) W ((κs, qs, tt, a, vals), tt) u t zs (lo, (tt, (tt, (tt, (lv, tt)))))) $ says ! (e′ ∙ ap auctionNumbers (e .0), e .1) $
       move ! (1 ∷ []) $ frame ! $
       -- [the result; how the volumes end; the count's last number; how the orders end]
       nothing ! $ move ! (2 ∷ 0 ∷ []) $ fjoin ! $ owned ! u32 (Is u32) (uint-makes 𝓤 H A W w32) n _ (refl, ok) $ fjoin ! $ owned ! O.the-row (Is O.the-row) (LL.makes O.the-type O′.the-plain 𝓤 H A) x _ x-is $ fjoin ! $ move ! (2 ∷ 0 ∷ []) $ fjoin ! $ move ! (2 ∷ 0 ∷ []) $ fjoin ! $ frame ! $ done !
 
-  module _ (C : Calls 𝓤 H) (Λ : Loops 𝓤 H) (fm : FmC 𝓤 H (W .laws) C) (known-add : Triple 𝓤 (C #add) (Adds 𝓤 H A mem run)) (known-numbers-of : Triple 𝓤 (C #auction-lines·numbers-of) (NumbersOf 𝓤 H A mem run)) where
-    walk : ent 𝓤 (onEntry 𝓤 H A exported.signature κs qs a vals) (WpFn 𝓤 H C Λ code.function (vo ∷ vc ∷ O′.lowered x ∷ vint w32 n ∷ vv ∷ []) Post)
+  module _ (𝓣 : Tables 𝓤 H) (known-add : Triple 𝓤 (𝓣 .C #add) (Adds 𝓤 H A mem run)) (known-numbers-of : Triple 𝓤 (𝓣 .C #auction-lines·numbers-of) (NumbersOf 𝓤 H A mem run)) where
+    walk : ent 𝓤 (onEntry 𝓤 H A exported.signature κs qs a vals) (WpFn 𝓤 H (𝓣 .C) (𝓣 .Λ) code.function (vo ∷ vc ∷ O′.lowered x ∷ vint w32 n ∷ vv ∷ []) Post)
     walk =
-        qed W (raw (onEntry 𝓤 H A exported.signature κs qs a vals) ∷ []) ∵ enter ! C Λ code.function (vo ∷ vc ∷ O′.lowered x ∷ vint w32 n ∷ vv ∷ []) _ $
+        qed W (raw (onEntry 𝓤 H A exported.signature κs qs a vals) ∷ []) ∵ enter ! (𝓣 .C) (𝓣 .Λ) code.function (vo ∷ vc ∷ O′.lowered x ∷ vint w32 n ∷ vv ∷ []) _ $
         alloc1 ! (λ l₀. alloc1 ! (λ l₁. alloc1 ! (λ l₂. alloc1 ! (λ l₃. alloc1 ! (λ l₄. alloc1 ! (λ l₅. alloc1 ! (λ l₆. alloc1 ! (λ l₇. alloc1 ! (λ l₈. alloc1 ! (λ l₉. alloc1 ! (λ l₁₀. alloc1 ! (λ l₁₁. alloc0 ! $ params1 ! $
         pass1 ! (init ! 20 refl (tt, (tt, (record { fits = room₀ .0 }, tt)))) $ pass1 ! (init ! 18 refl (tt, tt)) $ pass1 ! (init ! 16 refl (order-typed x x-is)) $ pass1 ! (init ! 14 refl (tt, record { fits = ok })) $ pass1 ! (init ! 12 refl (tt, (tt, (record { fits = room₂ .0 }, tt)))) $ pass0 ! $
         -- [room for _11; …; for _6; …; _5; …; _1; …; room for _0; …; what there is on entry]
@@ -147,7 +144,7 @@ module _ {M : Type 1} (𝓤 : URA M) (H : Heap 𝓤) (A : Atoms 𝓤) (W : Given
         assigns ! (agg ! (and-then ! (load ! (from ! (stop !)) (look ! 2 refl)) (and-then ! (load ! (from ! (fld ! refl (stop !))) (look-in ! 12 (sub ! 1 refl (whole !)))) (no-more !)))) (from ! (stop !)) (init ! 0 refl (tt, (tt, (record { fits = room₂ .0 }, tt)))) $
         move ! (24 ∷ []) $ use1 W (raw (Adds 𝓤 H A mem run .pre to-add)) goes-add $
         -- [what `add` asks; _11; …; _1; …; room for _0; …]
-        calls-at ! fm (Adds 𝓤 H A mem run) known-add to-add (and-then ! (load ! (from ! (stop !)) (look ! 7 refl)) (and-then ! (load ! (from ! (stop !)) (look ! 5 refl)) (and-then ! (load ! (from ! (stop !)) (look ! 17 refl)) (and-then ! (load ! (from ! (stop !)) (look ! 15 refl)) (and-then ! (load ! (from ! (stop !)) (look ! 1 refl)) (no-more !)))))) (λ u.
+        calls-at ! (fmOf 𝓤 H (W .laws) 𝓣) (Adds 𝓤 H A mem run) known-add to-add (and-then ! (load ! (from ! (stop !)) (look ! 7 refl)) (and-then ! (load ! (from ! (stop !)) (look ! 5 refl)) (and-then ! (load ! (from ! (stop !)) (look ! 17 refl)) (and-then ! (load ! (from ! (stop !)) (look ! 15 refl)) (and-then ! (load ! (from ! (stop !)) (look ! 1 refl)) (no-more !)))))) (λ u.
         use1 W (later (some (λ (r : AuctionAnswer). (tokens ⊛ ‵ (S.the-row .own r (u ∷ []))) ⊛ raw (ensured 𝓤 H A add.ended (add.clauses 𝓤 H A mem run) κs a tt r)))) (id⊢ 𝓤 _) $ await ! tt $ pick ! (λ r.
         -- what it ensures, at what is left
         split ! $ move ! (1 ∷ []) $ use1 W (some (λ (zs : Lasts add.ended κs a). ‵ (lasts add.ended κs a zs) ⊛ raw (fact 𝓤 (Said r zs)))) (id⊢ 𝓤 _) $ pick ! (λ zs.
@@ -157,7 +154,7 @@ module _ {M : Type 1} (𝓤 : URA M) (H : Heap 𝓤) (A : Atoms 𝓤) (W : Given
         peeks ! S.the-row (Is S.the-row) (shows 𝓤 H A S.the-row) r (u ∷ []) (λ is.
         land ! (from ! (stop !)) (init ! 15 refl (EL.lawful S.the-type S′.the-laws 𝓤 H A W tt .typed r _ is .0)) $
         use1 W (raw (NumbersOf 𝓤 H A mem run .pre (to-numbers-of r u))) (goes-numbers-of r u) $
-        calls-at ! fm (NumbersOf 𝓤 H A mem run) known-numbers-of (to-numbers-of r u) (and-then ! (load ! (from ! (stop !)) (look ! 15 refl)) (no-more !)) (λ u′.
+        calls-at ! (fmOf 𝓤 H (W .laws) 𝓣) (NumbersOf 𝓤 H A mem run) known-numbers-of (to-numbers-of r u) (and-then ! (load ! (from ! (stop !)) (look ! 15 refl)) (no-more !)) (λ u′.
         use1 W (later (some (λ (t : AuctionNumbers). (‵ ftrue ⊛ ‵ (N.the-row .own t (u′ ∷ []))) ⊛ raw (ensured 𝓤 H A numbers-of.ended (numbers-of.clauses 𝓤 H A mem run) tt (r, tt) tt t)))) (id⊢ 𝓤 _) $ await ! tt $ pick ! (λ t.
         split ! $ move ! (1 ∷ []) $ use1 W (raw (fact 𝓤 (t ≡ auctionNumbers r))) (numbers-of-said r t) $ heard ! (t ≡ auctionNumbers r) (λ e′. split ! $ drop ! $
         -- [the result; the tokens; how the volumes end; the count's last number; how the orders end; _11; …; _1; …; room for _0; …]
@@ -167,28 +164,9 @@ module _ {M : Type 1} (𝓤 : URA M) (H : Heap 𝓤) (A : Atoms 𝓤) (W : Given
         move ! (27 ∷ 28 ∷ []) $ free1 ! $ move ! (25 ∷ 26 ∷ []) $ free1 ! $ move ! (23 ∷ 24 ∷ []) $ free1 ! $ move ! (21 ∷ 22 ∷ []) $ free1 ! $ move ! (19 ∷ 20 ∷ []) $ free1 ! $ move ! (17 ∷ 18 ∷ []) $ free1 ! $ move ! (15 ∷ 16 ∷ []) $ free1 ! $ move ! (13 ∷ 14 ∷ []) $ free1 ! $ move ! (11 ∷ 12 ∷ []) $ free1 ! $ move ! (9 ∷ 10 ∷ []) $ free1 ! $ move ! (7 ∷ 8 ∷ []) $ free1 ! $ move ! (5 ∷ 6 ∷ []) $ free1 ! $
         free0 ! $ by ! (exits r t u′ zs e e′ lo lv))))))))))))))))))))))))
 
-module _ {M : Type 1} (𝓤 : URA M) (H : Heap 𝓤) (A : Atoms 𝓤) (W : Given 𝓤 H A) (mem : Memory → SProp 𝓤) (run : Routine → Fun 𝓤) where
-  walks : (C : Calls 𝓤 H) (Λ : Loops 𝓤 H) → FmC 𝓤 H (W .laws) C → Triple 𝓤 (C #add) (Adds 𝓤 H A mem run) → Triple 𝓤 (C #auction-lines·numbers-of) (NumbersOf 𝓤 H A mem run)
-      → Walks 𝓤 H A exported.ended stayed (WpFn 𝓤 H C Λ code.function) (exported.clauses 𝓤 H A mem run)
-  walks C Λ fm known-add known-numbers-of = walked 𝓤 H A exported.ended stayed (exported.clauses 𝓤 H A mem run) (WpFn 𝓤 H C Λ code.function) (λ κs. (slice-vals, (ptr-vals, ((λ y. O′.lowered y ∷ []), (uint-vals w32, (slice-vals, tt))))))
-      (λ κs. (mut-slice-tells (named 0) (κs .0) O.the-row, (mut-tells (named 1) (κs .1 .0) usize, (O′.lowers .val-is, (uint-tells w32, (mut-slice-tells (named 2) (κs .1 .1 .0) u64, tt))))))
-      (λ κs qs bounds a g are. via 𝓤 _ (fst∗ 𝓤 _ (emp 𝓤))
-      (walk 𝓤 H A W mem run κs qs (a .0) (a .1 .0) (a .1 .1 .0) (a .1 .1 .1 .0) (a .1 .1 .1 .1 .0) (are .0 .0 .1) (are .1 .1 .0) (are .1 .1 .1 .0 .1) (are .1 .1 .1 .1 .0 .0 .1) C Λ fm known-add known-numbers-of))
-
-  goes : AllGo 𝓤 H A W 3 (exported.signature .params) (exported.ended .kept) stayed
-  goes = (goes-gave-slice 𝓤 H A W 3 0 tt (plain (λ _. O.the-row)), (goes-gave-ref 𝓤 H A W 3 1 tt (plain (λ _. usize)), (goes-none 𝓤 H A W 3 (λ _. O.the-row) yes (λ κs x f. refl), (goes-none 𝓤 H A W 3 (λ _. u32) yes (λ κs x f. refl), (goes-gave-slice 𝓤 H A W 3 2 tt (plain (λ _. u64)), tt)))))
-
-meets : {M : Type 1} (𝓤 : URA M) (H : Heap 𝓤) (A : Atoms 𝓤) (W : Given 𝓤 H A) (mem : Memory → SProp 𝓤) (run : Routine → Fun 𝓤) (𝓣 : Tables 𝓤 H)
-    → Triple 𝓤 (𝓣 .C #add) (Adds 𝓤 H A mem run) → Triple 𝓤 (𝓣 .C #auction-lines·numbers-of) (NumbersOf 𝓤 H A mem run)
-    → Meets 𝓤 H A exported.signature (WpFn 𝓤 H (𝓣 .C) (𝓣 .Λ) code.function) (exported.spec 𝓤 H A mem run)
-meets 𝓤 H A W mem run 𝓣 known-add known-numbers-of = walk-meets 𝓤 H A exported.ended stayed W (goes 𝓤 H A W mem run) (exported.clauses 𝓤 H A mem run) (WpFn 𝓤 H (𝓣 .C) (𝓣 .Λ) code.function) (WpFn-mono 𝓤 H (W .laws) 𝓣 code.function)
-    (walks 𝓤 H A W mem run (𝓣 .C) (𝓣 .Λ) (fmOf 𝓤 H (W .laws) 𝓣) known-add known-numbers-of)
-
 pub guvontsira-auction-add-spec : {M : Type 1} → stated.statement M
-unfolding code.routine tablesOf
-guvontsira-auction-add-spec 𝓤 H 𝓜 𝓖 𝓡 =
-    entered 𝓤 H (tripleOf 𝓤 H (𝓖 .A) exported.signature (exported.spec 𝓤 H (𝓖 .A) (𝓜 .mem) (𝓡 .run)))
-    (tables 𝓤 H 𝓜 𝓡 code.env .C) (tables 𝓤 H 𝓜 𝓡 code.env .Λ) #guvontsira·guvontsira-auction-add code.function (code.unfolded 𝓤 H 𝓜 𝓡)
-    (meets 𝓤 H (𝓖 .A) (givenOf 𝓤 H 𝓜 𝓖) (𝓜 .mem) (𝓡 .run) (tablesOf 𝓤 H 𝓜 (tables 𝓤 H 𝓜 𝓡 code.env))
-    (cited 𝓤 H (Adds 𝓤 H (𝓖 .A) (𝓜 .mem) (𝓡 .run)) 𝓜 𝓡 code.env #add add-def.routine code.calls-auction-current·add (add-thm.met 𝓤 H 𝓜 𝓖 𝓡))
-    (cited 𝓤 H (NumbersOf 𝓤 H (𝓖 .A) (𝓜 .mem) (𝓡 .run)) 𝓜 𝓡 code.env #auction-lines·numbers-of numbers-of-def.routine code.calls-auction-lines·numbers-of (numbers-of-thm.met 𝓤 H 𝓜 𝓖 𝓡)))
+unfolding code.routine
+guvontsira-auction-add-spec 𝓤 H 𝓜 𝓖 𝓡 = walk-proves 𝓤 H 𝓜 𝓖 𝓡 code.env exported.ended parameters (exported.clauses 𝓤 H (𝓖 .A) (𝓜 .mem) (𝓡 .run)) #guvontsira·guvontsira-auction-add code.function (code.unfolded 𝓤 H 𝓜 𝓡) (λ 𝓣 known κs qs bounds a g are. via 𝓤 _ (fst∗ 𝓤 _ (emp 𝓤))
+    (walk 𝓤 H (𝓖 .A) (givenOf 𝓤 H 𝓜 𝓖) (𝓜 .mem) (𝓡 .run) κs qs (a .0) (a .1 .0) (a .1 .1 .0) (a .1 .1 .1 .0) (a .1 .1 .1 .1 .0) (are .0 .0 .1) (are .1 .1 .0) (are .1 .1 .1 .0 .1) (are .1 .1 .1 .1 .0 .0 .1) 𝓣
+    (known .cites (Adds 𝓤 H (𝓖 .A) (𝓜 .mem) (𝓡 .run)) code.calls-auction-current·add (add-thm.met 𝓤 H 𝓜 𝓖 𝓡))
+    (known .cites (NumbersOf 𝓤 H (𝓖 .A) (𝓜 .mem) (𝓡 .run)) code.calls-auction-lines·numbers-of (numbers-of-thm.met 𝓤 H 𝓜 𝓖 𝓡))))
