@@ -5,3 +5,8 @@ pub mod Prefix
 pub mod GivenUp
 pub mod Parameters
 pub mod Proved
+pub mod Cells
+pub mod Locals
+pub mod Whiles
+pub mod Element
+pub mod LentOn

@@ -28,16 +28,20 @@ use denote.Triple.Clauses.{Ended}
 use denote.Triple.Walked as Walked
 use denote.Triple.Walked.{Stay, Stays, Goes, AllGo}
 
+-- the machine values are a function of the denotation
+pub record Spelled {n : ℕ} (s : Slot n) : Type 1 where
+  pub vals : (κs : Lfts n) → s .row κs .Denot → List Val
+  pub tells : (κs : Lfts n) → Tells (s .row κs) (Is (s .row κs)) (vals κs)
+
 pub record Parameter {n : ℕ} (s : Slot n) (k : Kept) : Type 2 where
   pub stay : Stay s k
   pub goes : {M : Type 1} (𝓤 : URA M) (H : Heap 𝓤) (A : Atoms 𝓤) (W : Given 𝓤 H A) → Goes 𝓤 H A W n s k stay
-  pub vals : (κs : Lfts n) → s .row κs .Denot → List Val
-  pub tells : (κs : Lfts n) → Tells (s .row κs) (Is (s .row κs)) (vals κs)
+  pub spelled : Spelled s
 
 module _ {n : ℕ} where
   -- nothing is said of it at exit, which is a `refl` at any type that is written out
   abbrev pub value : (R : RattleType) (vals : R .Denot → List Val) → Tells R (Is R) vals → ((x : R .Denot) (f : Last (R .exit yes) x) → left (R .exit yes) x f ≡ ftrue) → Parameter {n = n} (plain (λ _. R)) yes
-  value R vals tells silent = record { stay = Walked.stay-none (λ _. R) yes; goes = λ 𝓤 H A W. Walked.goes-none 𝓤 H A W n (λ _. R) yes (λ _. silent); vals = λ _. vals; tells = λ _. tells }
+  value R vals tells silent = record { stay = Walked.stay-none (λ _. R) yes; goes = λ 𝓤 H A W. Walked.goes-none 𝓤 H A W n (λ _. R) yes (λ _. silent); spelled = record { vals = λ _. vals; tells = λ _. tells } }
 
   abbrev pub number : (w : Width) → Parameter {n = n} (plain (λ _. UInt w)) yes
   number w = value (UInt w) (uint-vals w) (uint-tells w) (λ x f. refl)
@@ -47,41 +51,26 @@ module _ {n : ℕ} where
     shared-slice = record {
       stay = Walked.stay-none-slice (j ∷ []) ok (plain (λ _. R)) yes;
       goes = λ 𝓤 H A W. Walked.goes-none-slice 𝓤 H A W n (j ∷ []) ok (plain (λ _. R)) yes;
-      vals = λ _. slice-vals;
-      tells = λ κs. shr-slice-tells (named j) (meetAt n (j ∷ []) ok κs) R;
+      spelled = record { vals = λ _. slice-vals; tells = λ κs. shr-slice-tells (named j) (meetAt n (j ∷ []) ok κs) R };
     }
+
+    abbrev spelled-slice : Spelled {n = n} (mutSlice j ok (λ _. R))
+    spelled-slice = record { vals = λ _. slice-vals; tells = λ κs. mut-slice-tells (named j) (meetAt n (j ∷ []) ok κs) R }
 
     abbrev pub kept-slice : Parameter {n = n} (mutSlice j ok (λ _. R)) yes
-    kept-slice = record {
-      stay = Walked.stay-slice (j ∷ []) ok (plain (λ _. R));
-      goes = λ 𝓤 H A W. Walked.goes-slice 𝓤 H A W n j ok (plain (λ _. R));
-      vals = λ _. slice-vals;
-      tells = λ κs. mut-slice-tells (named j) (meetAt n (j ∷ []) ok κs) R;
-    }
+    kept-slice = record { stay = Walked.stay-slice (j ∷ []) ok (plain (λ _. R)); goes = λ 𝓤 H A W. Walked.goes-slice 𝓤 H A W n j ok (plain (λ _. R)); spelled = spelled-slice }
 
     abbrev pub gave-slice : Parameter {n = n} (mutSlice j ok (λ _. R)) yes
-    gave-slice = record {
-      stay = Walked.gave-slice (j ∷ []) ok (plain (λ _. R));
-      goes = λ 𝓤 H A W. Walked.goes-gave-slice 𝓤 H A W n j ok (plain (λ _. R));
-      vals = λ _. slice-vals;
-      tells = λ κs. mut-slice-tells (named j) (meetAt n (j ∷ []) ok κs) R;
-    }
+    gave-slice = record { stay = Walked.gave-slice (j ∷ []) ok (plain (λ _. R)); goes = λ 𝓤 H A W. Walked.goes-gave-slice 𝓤 H A W n j ok (plain (λ _. R)); spelled = spelled-slice }
+
+    abbrev spelled-ref : Spelled {n = n} (mutRef j ok (λ _. R))
+    spelled-ref = record { vals = λ _. ptr-vals; tells = λ κs. mut-tells (named j) (meetAt n (j ∷ []) ok κs) R }
 
     abbrev pub kept-ref : Parameter {n = n} (mutRef j ok (λ _. R)) yes
-    kept-ref = record {
-      stay = Walked.stay-ref (j ∷ []) ok (plain (λ _. R));
-      goes = λ 𝓤 H A W. Walked.goes-ref 𝓤 H A W n j ok (plain (λ _. R));
-      vals = λ _. ptr-vals;
-      tells = λ κs. mut-tells (named j) (meetAt n (j ∷ []) ok κs) R;
-    }
+    kept-ref = record { stay = Walked.stay-ref (j ∷ []) ok (plain (λ _. R)); goes = λ 𝓤 H A W. Walked.goes-ref 𝓤 H A W n j ok (plain (λ _. R)); spelled = spelled-ref }
 
     abbrev pub gave-ref : Parameter {n = n} (mutRef j ok (λ _. R)) yes
-    gave-ref = record {
-      stay = Walked.gave-ref (j ∷ []) ok (plain (λ _. R));
-      goes = λ 𝓤 H A W. Walked.goes-gave-ref 𝓤 H A W n j ok (plain (λ _. R));
-      vals = λ _. ptr-vals;
-      tells = λ κs. mut-tells (named j) (meetAt n (j ∷ []) ok κs) R;
-    }
+    gave-ref = record { stay = Walked.gave-ref (j ∷ []) ok (plain (λ _. R)); goes = λ 𝓤 H A W. Walked.goes-gave-ref 𝓤 H A W n j ok (plain (λ _. R)); spelled = spelled-ref }
 
   abbrev pub Parameters : (ss : List (Slot n)) → Kepts ss → Type 2
   Parameters [] ks = Unit {2}
@@ -98,11 +87,11 @@ module _ {n : ℕ} where
   module _ (κs : Lfts n) where
     abbrev pub spells : (ss : List (Slot n)) (ks : Kepts ss) → Parameters ss ks → Spells (typesAt ss κs)
     spells [] ks ps = tt
-    spells (s ∷ ss) ks ps = (ps .0 .vals κs, spells ss (ks .1) (ps .1))
+    spells (s ∷ ss) ks ps = (ps .0 .spelled .vals κs, spells ss (ks .1) (ps .1))
 
     abbrev pub all-tell : (ss : List (Slot n)) (ks : Kepts ss) (ps : Parameters ss ks) → Tellss (typesAt ss κs) (Ises (typesAt ss κs)) (spells ss ks ps)
     all-tell [] ks ps = tt
-    all-tell (s ∷ ss) ks ps = (ps .0 .tells κs, all-tell ss (ks .1) (ps .1))
+    all-tell (s ∷ ss) ks ps = (ps .0 .spelled .tells κs, all-tell ss (ks .1) (ps .1))
 
 -- of a function
 abbrev pub Of : Ended → Type 2
