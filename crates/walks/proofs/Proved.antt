@@ -13,29 +13,25 @@ use sound.WpLaws.{WpFn-mono}
 use contract.Lifetimes.{Lfts, Shares, AllOutlive}
 use contract.Running.{Running, GhostRules, givenOf, tables, tablesOf}
 use denote.RattleType.{flat}
-use denote.Laws.{Are, Ises, valss}
 use denote.Signature.{typesAt}
 use denote.Triple.Statement.{Contract, Triple}
-use denote.Triple.Entry.{Args, Vals, onEntry}
+use denote.Triple.Entry.{Args, onEntry}
 use denote.Triple.Spec.{tripleOf}
 use denote.Triple.Clauses.{Clauses, Ended, closing}
 use denote.Triple.Table.{entered, cited}
 use denote.Triple.Walked.{walkOf, walked, walk-meets}
-use Rattle.walks.proofs.Parameters.{Of, stayed, all-go, spells, all-tell}
+use Rattle.walks.proofs.Parameters.{Of, Typed, all-go, all-tell, machine, spells, stayed}
 
 module _ {M : Type 1} (𝓤 : URA M) (H : Heap 𝓤) (𝓜 : Model 𝓤 H) (𝓖 : GhostRules 𝓤 H) (𝓡 : Running 𝓤 H 𝓜) (γ : Env) where
   pub record Cites (𝓣 : Tables 𝓤 H) : Type 2 where
     pub cites : (c : Contract 𝓤) {k : Name} {r : Routine} → γ k ≡ r → Triple 𝓤 (𝓡 .run r) c → Triple 𝓤 (𝓣 .C k) c
 
   module _ (T : Ended) (ps : Of T) (c : Clauses 𝓤 T) where
-    abbrev passed : (κs : Lfts (T .signature .lifetimes)) → Args (T .signature) κs → Vals (T .signature) κs
-    passed κs a = valss (typesAt (T .signature .params) κs) (spells κs (T .signature .params) (T .kept) ps) a
-
     pub walk-proves : (k : Name) (e : Fn) → Closed 𝓤 H (tables 𝓤 H 𝓜 𝓡 γ .C) (tables 𝓤 H 𝓜 𝓡 γ .Λ) k e
         → ((𝓣 : Tables 𝓤 H) → Cites 𝓣 → (κs : Lfts (T .signature .lifetimes)) (qs : Shares (T .signature .lifetimes)) (bounds : AllOutlive (T .signature .lifetimes) (T .signature .outlives) κs) (a : Args (T .signature) κs) (g : c κs a .ghost)
-        → Are (typesAt (T .signature .params) κs) (Ises (typesAt (T .signature .params) κs)) a (passed κs a)
-        → ent 𝓤 (sep 𝓤 (onEntry 𝓤 H (𝓖 .A) (T .signature) κs qs a (passed κs a)) (c κs a .requires g))
-        (WpFn 𝓤 H (𝓣 .C) (𝓣 .Λ) e (flat (typesAt (T .signature .params) κs) (passed κs a)) (walkOf 𝓤 H (𝓖 .A) T (stayed T ps) c .post ((κs, qs, bounds, a, passed κs a), g))))
+        → Typed T ps κs a
+        → ent 𝓤 (sep 𝓤 (onEntry 𝓤 H (𝓖 .A) (T .signature) κs qs a (machine T ps κs a)) (c κs a .requires g))
+        (WpFn 𝓤 H (𝓣 .C) (𝓣 .Λ) e (flat (typesAt (T .signature .params) κs) (machine T ps κs a)) (walkOf 𝓤 H (𝓖 .A) T (stayed T ps) c .post ((κs, qs, bounds, a, machine T ps κs a), g))))
         → Triple 𝓤 (𝓡 .run (γ k)) (tripleOf 𝓤 H (𝓖 .A) (T .signature) (closing 𝓤 H (𝓖 .A) T c))
     unfolding tablesOf
     walk-proves k e closed walk =
