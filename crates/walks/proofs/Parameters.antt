@@ -4,7 +4,7 @@
 --     shared-slice     a `&[T]`
 --     kept-slice, gave-slice       a `&mut [T]` that is still owned, at its last list; and one of which only the last list is known
 --     kept-ref, gave-ref           likewise a `&mut T`
---     passed           any that is passed on to a callee for good: what the callee's contract says of it at exit is had.        saids, said-fits, said-has       for a list of these
+--     said             any that is passed on to a callee for good: what the callee's contract says of it at exit is had.        saids, said-go, said-fits, said-has       for a list of these
 -- Assumes nothing.
 use mathlib.Core.Path.{_≡_, refl, ap}
 use Prim.Native.Nat.{ℕ}
@@ -22,7 +22,7 @@ use denote.Laws.{Is, Tells, Are, Ises, Spells, valss, Tellss}
 use denote.Plain.{UInt, uint-vals, uint-tells}
 use denote.Ref.{ptr-vals, mut-tells}
 use denote.Slice.{slice-vals, mut-slice-tells, shr-slice-tells}
-use denote.Signature.{Slot, meetAt, plain, mutRef, mutSlice, shrSlice, typesAt}
+use denote.Signature.{Slot, Signature, meetAt, plain, mutRef, mutSlice, shrSlice, typesAt}
 use denote.Exit.{Kept, yes, Last, left}
 use denote.Triple.Entry.{Args, Vals}
 use denote.Triple.End.{Kepts, Fins, lastsOf}
@@ -83,9 +83,6 @@ module _ {n : ℕ} where
   abbrev pub said : (s : Slot n) (k : Kept) → Stay s k
   said s k = record { fit = λ κs x f. Unit {0}; has = λ κs x f vs. left (s .row κs .exit k) x f }
 
-  abbrev pub passed : {s : Slot n} {k : Kept} → Spelled s → Parameter s k
-  passed {s} {k} sp = record { stay = said s k; goes = λ 𝓤 H A W κs x f vs fits. W .laws .⇛-intro (sem 𝓤 H A (left (s .row κs .exit k) x f)); spelled = sp }
-
   abbrev pub Parameters : (ss : List (Slot n)) → Kepts ss → Type 2
   Parameters [] ks = Unit {2}
   Parameters (s ∷ ss) ks = Parameter s (ks .0) × Parameters ss (ks .1)
@@ -98,18 +95,30 @@ module _ {n : ℕ} where
   all-go 𝓤 H A W [] ks ps = tt
   all-go 𝓤 H A W (s ∷ ss) ks ps = (ps .0 .goes 𝓤 H A W, all-go 𝓤 H A W ss (ks .1) (ps .1))
 
-  module _ (κs : Lfts n) where
-    abbrev pub spells : (ss : List (Slot n)) (ks : Kepts ss) → Parameters ss ks → Spells (typesAt ss κs)
-    spells [] ks ps = tt
-    spells (s ∷ ss) ks ps = (ps .0 .spelled .vals κs, spells ss (ks .1) (ps .1))
+  abbrev pub Spelleds : List (Slot n) → Type 1
+  Spelleds [] = Unit {1}
+  Spelleds (s ∷ ss) = Spelled s × Spelleds ss
 
-    abbrev pub all-tell : (ss : List (Slot n)) (ks : Kepts ss) (ps : Parameters ss ks) → Tellss (typesAt ss κs) (Ises (typesAt ss κs)) (spells ss ks ps)
-    all-tell [] ks ps = tt
-    all-tell (s ∷ ss) ks ps = (ps .0 .spelled .tells κs, all-tell ss (ks .1) (ps .1))
+  abbrev pub spelleds : (ss : List (Slot n)) (ks : Kepts ss) → Parameters ss ks → Spelleds ss
+  spelleds [] ks ps = tt
+  spelleds (s ∷ ss) ks ps = (ps .0 .spelled, spelleds ss (ks .1) (ps .1))
+
+  module _ (κs : Lfts n) where
+    abbrev pub spells : (ss : List (Slot n)) → Spelleds ss → Spells (typesAt ss κs)
+    spells [] sp = tt
+    spells (s ∷ ss) sp = (sp .0 .vals κs, spells ss (sp .1))
+
+    abbrev pub all-tell : (ss : List (Slot n)) (sp : Spelleds ss) → Tellss (typesAt ss κs) (Ises (typesAt ss κs)) (spells ss sp)
+    all-tell [] sp = tt
+    all-tell (s ∷ ss) sp = (sp .0 .tells κs, all-tell ss (sp .1))
 
   abbrev pub saids : (ss : List (Slot n)) (ks : Kepts ss) → Stays ss ks
   saids [] ks = tt
   saids (s ∷ ss) ks = (said s (ks .0), saids ss (ks .1))
+
+  pub said-go : {M : Type 1} (𝓤 : URA M) (H : Heap 𝓤) (A : Atoms 𝓤) (W : Given 𝓤 H A) (ss : List (Slot n)) (ks : Kepts ss) → AllGo 𝓤 H A W n ss ks (saids ss ks)
+  said-go 𝓤 H A W [] ks = tt
+  said-go 𝓤 H A W (s ∷ ss) ks = ((λ κs x f vs fits. W .laws .⇛-intro (sem 𝓤 H A (left (s .row κs .exit (ks .0)) x f))), said-go 𝓤 H A W ss (ks .1))
 
   module _ (κs : Lfts n) where
     pub said-fits : (ss : List (Slot n)) (ks : Kepts ss) (a : Denots (typesAt ss κs)) (ws : Fins κs ss ks a) → fitsOf κs ss ks (saids ss ks) a ws
@@ -127,10 +136,10 @@ Of T = Parameters (T .signature .params) (T .kept)
 abbrev pub stayed : (T : Ended) → Of T → Stays (T .signature .params) (T .kept)
 stayed T = stays (T .signature .params) (T .kept)
 
--- their machine values at the arguments a, and that these are of their types
-module _ (T : Ended) (ps : Of T) (κs : Lfts (T .signature .lifetimes)) where
-  abbrev pub machine : Args (T .signature) κs → Vals (T .signature) κs
-  machine a = valss (typesAt (T .signature .params) κs) (spells κs (T .signature .params) (T .kept) ps) a
+-- the machine values at the arguments a, and that these are of their types
+module _ (S : Signature) (sp : Spelleds (S .params)) (κs : Lfts (S .lifetimes)) where
+  abbrev pub machine : Args S κs → Vals S κs
+  machine a = valss (typesAt (S .params) κs) (spells κs (S .params) sp) a
 
-  abbrev pub Typed : Args (T .signature) κs → Type 0
-  Typed a = Are (typesAt (T .signature .params) κs) (Ises (typesAt (T .signature .params) κs)) a (machine a)
+  abbrev pub Typed : Args S κs → Type 0
+  Typed a = Are (typesAt (S .params) κs) (Ises (typesAt (S .params) κs)) a (machine a)
