@@ -5,3 +5,4 @@ pub mod Held
 pub mod Kept
 pub mod Added
 pub mod Taken
+pub mod Types

@@ -238,7 +238,7 @@ module _ {M : Type 1} (𝓤 : URA M) (H : Heap 𝓤) (A : Atoms 𝓤) (W : Given
                 assigns ! (of-opd ! (load ! (from ! (hop ! (look ! 27 refl) (stop !))) (look-raw ! 0 refl))) (from ! (stop !)) (init ! 28 refl (order-typed o o-is)) $
                 elem-back ! O.the-row q os j zeroOrder (O′.lowered o ∷ []) b₀ o₀ j-small $
                 assigns ! (of-opd ! (load ! (from ! (stop !)) (look ! 26 refl))) (from ! (stop !)) (init ! 14 refl (order-typed o o-is)) $
-                calls-bad-at-first 𝓤 H A W mem run i o ! fm known-bad-at-first (omega (arith, i-small, fits)) o-is (and-then ! (load ! (from ! (stop !)) (look ! 11 refl)) (and-then ! (load ! (from ! (stop !)) (look ! 14 refl)) (no-more !))) (λ _.
+                calls-bad-at-first 𝓤 H A W mem run i o ! 𝓣 known-bad-at-first (omega (arith, i-small, fits)) o-is (and-then ! (load ! (from ! (stop !)) (look ! 11 refl)) (and-then ! (load ! (from ! (stop !)) (look ! 14 refl)) (no-more !))) (λ _.
                 land ! (from ! (stop !)) (init ! 27 refl (tt, tt)) $
                 first ! $ branches ! (load ! (from ! (stop !)) (look ! 27 refl))
                 -- it is bad: the flag is set, and the label ends both loops
@@ -246,7 +246,7 @@ module _ {M : Type 1} (𝓤 : URA M) (H : Heap 𝓤) (A : Atoms 𝓤) (W : Given
                 forget ! 14 refl $ forget ! 23 refl $ forget ! 24 refl $ forget ! 25 refl $ forget ! 26 refl $ forget ! 27 refl $ to-label t j-small (holds _ bad))
                 -- it is not: it is added to the line
                 (λ good. skips ! $ exec ! (𝓣 .C) (𝓣 .Λ) E (past 8 body.turn-1) (After 𝓤 H A orders-left (In best i bs ss false) Q t) $
-                calls-with-order 𝓤 H A W mem run (t .line) o ! fm known-with-order (t .line-is) o-is (small os fits (t .at)) (and-then ! (load ! (from ! (stop !)) (look ! 12 refl)) (and-then ! (load ! (from ! (stop !)) (look ! 14 refl)) (no-more !))) (λ line-is.
+                calls-with-order 𝓤 H A W mem run (t .line) o ! 𝓣 known-with-order (t .line-is) o-is (small os fits (t .at)) (and-then ! (load ! (from ! (stop !)) (look ! 12 refl)) (and-then ! (load ! (from ! (stop !)) (look ! 14 refl)) (no-more !))) (λ line-is.
                 land ! (from ! (stop !)) (store ! 12 refl (line-typed _ line-is)) $
                 let step : j + 1 < 2 ^ 64 = omega (arith, j-small, fits) in
                 assigns-last ! (bin ! (load ! (from ! (stop !)) (look ! 13 refl)) (lit ! tt) (record { fits = step })) (from ! (stop !)) (store ! 13 refl (tt, record { fits = step })) $
@@ -294,7 +294,7 @@ module _ {M : Type 1} (𝓤 : URA M) (H : Heap 𝓤) (A : Atoms 𝓤) (W : Given
                 assigns ! (of-opd ! (load ! (from ! (fld ! refl (stop !))) (look-in ! 14 (sub ! 2 refl (whole !))))) (from ! (hop ! (look ! 31 refl) (stop !))) (store ! 0 refl (tt, record { fits = s-is })) $
                 move ! (1 ∷ []) $ drop ! $ owned ! u64 (Is u64) (uint-makes 𝓤 H A W w64) (line .sellers) _ (refl, s-is) $ move ! (1 ∷ 0 ∷ []) $ elem-put ! u64 fullShare (t .lists .1 .list) i (line .sellers) (vint w64 (line .sellers) ∷ []) b₂ o₂ i-ss $
                 move ! (1 ∷ 2 ∷ []) $
-                calls-better 𝓤 H A W mem run reference line (t .best) ! fm known-better ok (u .line-is) (t .best-is) (and-then ! (load ! (from ! (stop !)) (look ! 5 refl)) (and-then ! (load ! (from ! (stop !)) (look ! 12 refl)) (and-then ! (load ! (from ! (stop !)) (look ! 9 refl)) (no-more !)))) (λ best-is.
+                calls-better 𝓤 H A W mem run reference line (t .best) ! 𝓣 known-better ok (u .line-is) (t .best-is) (and-then ! (load ! (from ! (stop !)) (look ! 5 refl)) (and-then ! (load ! (from ! (stop !)) (look ! 12 refl)) (and-then ! (load ! (from ! (stop !)) (look ! 9 refl)) (no-more !)))) (λ best-is.
                 land ! (from ! (stop !)) (store ! 9 refl (line-typed _ best-is)) $
                 assigns-last ! (bin ! (load ! (from ! (stop !)) (look ! 11 refl)) (lit ! tt) (record { fits = step })) (from ! (stop !)) (store ! 11 refl (tt, record { fits = step })) $
                 forget ! 12 refl $ forget ! 13 refl $ forget ! 20 refl $ forget ! 28 refl $ forget ! 29 refl $
@@ -324,7 +324,7 @@ module _ {M : Type 1} (𝓤 : URA M) (H : Heap 𝓤) (A : Atoms 𝓤) (W : Given
                 -- [orders[i]; what it owns; the others; the buyers' list; the sellers'; the locals]
                 assigns ! (of-opd ! (load ! (from ! (hop ! (look ! 23 refl) (fld ! refl (stop !)))) (look-in ! 0 (sub ! 1 refl (whole !))))) (from ! (stop !)) (init ! 24 refl (tt, record { fits = p-is })) $
                 elem-back ! O.the-row q os i zeroOrder (O′.lowered o ∷ []) b₀ o₀ i-small $
-                calls-empty-line 𝓤 H A W mem run (o .price) ! fm known-empty-line p-is (and-then ! (load ! (from ! (stop !)) (look ! 22 refl)) (no-more !)) (λ line-is.
+                calls-empty-line 𝓤 H A W mem run (o .price) ! 𝓣 known-empty-line p-is (and-then ! (load ! (from ! (stop !)) (look ! 22 refl)) (no-more !)) (λ line-is.
                 land ! (from ! (stop !)) (init ! 12 refl (line-typed _ line-is)) $
                 assigns ! (of-opd ! (lit ! tt)) (from ! (stop !)) (init ! 13 refl (tt, record { fits = lit< tt })) $
                 forget ! 19 refl $ forget ! 20 refl $ forget ! 21 refl $ forget ! 22 refl $ first ! $
@@ -348,7 +348,7 @@ module _ {M : Type 1} (𝓤 : URA M) (H : Heap 𝓤) (A : Atoms 𝓤) (W : Given
       -- after the loops: the answer is made, the borrows are closed, and the function returns
       tail : (q : Share) (bad : Bool) (t : State) → Promised os reference bs₀ ss₀ (answerOf bad (t .best)) (t .lists .0 .list) (t .lists .1 .list) → Sq W (Out q (Open q) bad t) (runs (𝓣 .C) (𝓣 .Λ) E body.t-11 (atRet E Post))
       tail q bad t promise =
-          calls-answer-of 𝓤 H A W mem run bad (t .best) ! fm known-answer-of (t .best-is) (and-then ! (load ! (from ! (stop !)) (look ! 10 refl)) (and-then ! (load ! (from ! (stop !)) (look ! 9 refl)) (no-more !))) (λ is.
+          calls-answer-of 𝓤 H A W mem run bad (t .best) ! 𝓣 known-answer-of (t .best-is) (and-then ! (load ! (from ! (stop !)) (look ! 10 refl)) (and-then ! (load ! (from ! (stop !)) (look ! 9 refl)) (no-more !))) (λ is.
           land ! (from ! (stop !)) (init ! 3 refl (answer-typed 𝓤 H A W (answerOf bad (t .best)) is)) $
           move ! (0 ∷ 30 ∷ []) $ shuts-slice ! tt O.the-row q os b₀ o₀ $
           -- [the orders' token; the buyers' list; the sellers'; the locals; the fractured borrow; what closes the other two; …]
@@ -363,7 +363,7 @@ module _ {M : Type 1} (𝓤 : URA M) (H : Heap 𝓤) (A : Atoms 𝓤) (W : Given
           assigns ! (of-opd ! (load ! (from ! (fld ! refl (stop !))) (look-in ! 10 (sub ! 1 refl (whole !))))) (from ! (stop !)) (init ! 14 refl (tt, record { fits = room₀ .0 })) $
           assigns ! (of-opd ! (load ! (from ! (fld ! refl (stop !))) (look-in ! 12 (sub ! 1 refl (whole !))))) (from ! (stop !)) (init ! 22 refl (tt, record { fits = room₁ .0 })) $
           assigns ! (of-opd ! (load ! (from ! (fld ! refl (stop !))) (look-in ! 13 (sub ! 1 refl (whole !))))) (from ! (stop !)) (init ! 23 refl (tt, record { fits = room₂ .0 })) $
-          calls-lists-fit 𝓤 H A W mem run n (length bs₀) (length ss₀) ! fm known-lists-fit (room₀ .0) (room₁ .0) (room₂ .0) (and-then ! (load ! (from ! (stop !)) (look ! 14 refl)) (and-then ! (load ! (from ! (stop !)) (look ! 22 refl)) (and-then ! (load ! (from ! (stop !)) (look ! 23 refl)) (no-more !)))) (λ _.
+          calls-lists-fit 𝓤 H A W mem run n (length bs₀) (length ss₀) ! 𝓣 known-lists-fit (room₀ .0) (room₁ .0) (room₂ .0) (and-then ! (load ! (from ! (stop !)) (look ! 14 refl)) (and-then ! (load ! (from ! (stop !)) (look ! 22 refl)) (and-then ! (load ! (from ! (stop !)) (look ! 23 refl)) (no-more !)))) (λ _.
           land ! (from ! (stop !)) (init ! 21 refl (tt, tt)) $
           assigns ! (un ! (load ! (from ! (stop !)) (look ! 21 refl)) tt) (from ! (stop !)) (init ! 24 refl (tt, tt)) $
           first ! $ branches ! (load ! (from ! (stop !)) (look ! 24 refl))
@@ -373,7 +373,7 @@ module _ {M : Type 1} (𝓤 : URA M) (H : Heap 𝓤) (A : Atoms 𝓤) (W : Given
           -- the lists fit
           (λ fits. skips ! $ exec ! (𝓣 .C) (𝓣 .Λ) E body.t-7 (atRet E Post) $
           forget ! 21 refl $ forget ! 22 refl $ forget ! 23 refl $ forget ! 24 refl $
-          calls-empty-line 𝓤 H A W mem run 0 ! fm known-empty-line (lit< tt) (and-then ! (lit ! tt) (no-more !)) (λ best-is.
+          calls-empty-line 𝓤 H A W mem run 0 ! 𝓣 known-empty-line (lit< tt) (and-then ! (lit ! tt) (no-more !)) (λ best-is.
           land ! (from ! (stop !)) (init ! 15 refl (line-typed _ best-is)) $
           assigns ! (of-opd ! (false-lit !)) (from ! (stop !)) (init ! 16 refl (tt, tt)) $
           assigns ! (of-opd ! (lit ! tt)) (from ! (stop !)) (init ! 17 refl (tt, record { fits = lit< tt })) $

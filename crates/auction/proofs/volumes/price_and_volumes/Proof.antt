@@ -269,7 +269,7 @@ module _ {M : Type 1} (𝓤 : URA M) (H : Heap 𝓤) (A : Atoms 𝓤) (W : Given
                 assigns ! (of-opd ! (load ! (from ! (hop ! (look ! 25 refl) (stop !))) (look-raw ! 0 refl))) (from ! (stop !)) (init ! 26 refl (order-typed o o-is)) $
                 elem-back ! O.the-row q os j zeroOrder (O′.lowered o ∷ []) b₀ o₀ j-small $
                 assigns ! (of-opd ! (load ! (from ! (stop !)) (look ! 24 refl))) (from ! (stop !)) (init ! 12 refl (order-typed o o-is)) $
-                calls-bad-at-first 𝓤 H A W mem run i o ! fm known-bad-at-first (omega (arith, i-small, fits)) o-is (and-then ! (load ! (from ! (stop !)) (look ! 9 refl)) (and-then ! (load ! (from ! (stop !)) (look ! 12 refl)) (no-more !))) (λ _.
+                calls-bad-at-first 𝓤 H A W mem run i o ! 𝓣 known-bad-at-first (omega (arith, i-small, fits)) o-is (and-then ! (load ! (from ! (stop !)) (look ! 9 refl)) (and-then ! (load ! (from ! (stop !)) (look ! 12 refl)) (no-more !))) (λ _.
                 land ! (from ! (stop !)) (init ! 25 refl (tt, tt)) $
                 first ! $ branches ! (load ! (from ! (stop !)) (look ! 25 refl))
                 -- it is bad: the flag is set, and the label ends both loops
@@ -277,7 +277,7 @@ module _ {M : Type 1} (𝓤 : URA M) (H : Heap 𝓤) (A : Atoms 𝓤) (W : Given
                 forget ! 12 refl $ forget ! 21 refl $ forget ! 22 refl $ forget ! 23 refl $ forget ! 24 refl $ forget ! 25 refl $ to-label t j-small (holds _ bad))
                 -- it is not: it is added to the line
                 (λ good. skips ! $ exec ! (𝓣 .C) (𝓣 .Λ) E (past 8 body.turn-1) (After 𝓤 H A orders-left (In best i vs false) Q t) $
-                calls-with-order 𝓤 H A W mem run (t .line) o ! fm known-with-order (t .line-is) o-is (small os fits (t .at)) (and-then ! (load ! (from ! (stop !)) (look ! 10 refl)) (and-then ! (load ! (from ! (stop !)) (look ! 12 refl)) (no-more !))) (λ line-is.
+                calls-with-order 𝓤 H A W mem run (t .line) o ! 𝓣 known-with-order (t .line-is) o-is (small os fits (t .at)) (and-then ! (load ! (from ! (stop !)) (look ! 10 refl)) (and-then ! (load ! (from ! (stop !)) (look ! 12 refl)) (no-more !))) (λ line-is.
                 land ! (from ! (stop !)) (store ! 10 refl (line-typed _ line-is)) $
                 let step : j + 1 < 2 ^ 64 = omega (arith, j-small, fits) in
                 assigns-last ! (bin ! (load ! (from ! (stop !)) (look ! 11 refl)) (lit ! tt) (record { fits = step })) (from ! (stop !)) (store ! 11 refl (tt, record { fits = step })) $
@@ -312,7 +312,7 @@ module _ {M : Type 1} (𝓤 : URA M) (H : Heap 𝓤) (A : Atoms 𝓤) (W : Given
                 let i-vs : i < length (t .lists .list) = omega (arith, i-small, big .0, big .1, t .lists .long) in
                 let done : Orders os i n line = subst (λ (k : ℕ). Orders os i k line) e (u .at) in
                 exec ! (𝓣 .C) (𝓣 .Λ) E (past 8 body.turn-2) (After 𝓤 H A places-left (Out false) Q t) $
-                calls-volume-of 𝓤 H A W mem run line ! fm known-volume-of (u .line-is) (and-then ! (load ! (from ! (stop !)) (look ! 10 refl)) (no-more !)) (λ v-is.
+                calls-volume-of 𝓤 H A W mem run line ! 𝓣 known-volume-of (u .line-is) (and-then ! (load ! (from ! (stop !)) (look ! 10 refl)) (no-more !)) (λ v-is.
                 land ! (from ! (stop !)) (init ! 26 refl (tt, record { fits = v-is .1 })) $
                 reaches ! tt far refl (look ! 9 refl) (init ! 18 refl (tt, record { fits = far })) (look-in ! 5 (sub ! 0 refl (whole !))) (look ! 18 refl) (init ! 27 refl (tt, tt)) $
                 move ! (1 ∷ []) $ elem-out ! u64 (Is u64) (shows 𝓤 H A u64) (uint-vals w64) (uint-tells w64) fullShare (t .lists .list) i 0 b₁ o₁ i-vs (λ _.
@@ -320,7 +320,7 @@ module _ {M : Type 1} (𝓤 : URA M) (H : Heap 𝓤) (A : Atoms 𝓤) (W : Given
                 assigns ! (of-opd ! (load ! (from ! (stop !)) (look ! 28 refl))) (from ! (hop ! (look ! 29 refl) (stop !))) (store ! 0 refl (tt, record { fits = v-is .1 })) $
                 move ! (1 ∷ []) $ drop ! $ owned ! u64 (Is u64) (uint-makes 𝓤 H A W w64) (volumeOf line) _ (refl, v-is .1) $ move ! (1 ∷ 0 ∷ []) $ elem-put ! u64 fullShare (t .lists .list) i (volumeOf line) (vint w64 (volumeOf line) ∷ []) b₁ o₁ i-vs $
                 move ! (1 ∷ []) $
-                calls-better 𝓤 H A W mem run reference line (t .best) ! fm known-better ok (u .line-is) (t .best-is) (and-then ! (load ! (from ! (stop !)) (look ! 4 refl)) (and-then ! (load ! (from ! (stop !)) (look ! 10 refl)) (and-then ! (load ! (from ! (stop !)) (look ! 7 refl)) (no-more !)))) (λ best-is.
+                calls-better 𝓤 H A W mem run reference line (t .best) ! 𝓣 known-better ok (u .line-is) (t .best-is) (and-then ! (load ! (from ! (stop !)) (look ! 4 refl)) (and-then ! (load ! (from ! (stop !)) (look ! 10 refl)) (and-then ! (load ! (from ! (stop !)) (look ! 7 refl)) (no-more !)))) (λ best-is.
                 land ! (from ! (stop !)) (store ! 7 refl (line-typed _ best-is)) $
                 assigns-last ! (bin ! (load ! (from ! (stop !)) (look ! 9 refl)) (lit ! tt) (record { fits = step })) (from ! (stop !)) (store ! 9 refl (tt, record { fits = step })) $
                 forget ! 10 refl $ forget ! 11 refl $ forget ! 18 refl $ forget ! 26 refl $ forget ! 27 refl $
@@ -349,7 +349,7 @@ module _ {M : Type 1} (𝓤 : URA M) (H : Heap 𝓤) (A : Atoms 𝓤) (W : Given
                 -- [orders[i]; what it owns; the others; the volumes; the locals]
                 assigns ! (of-opd ! (load ! (from ! (hop ! (look ! 21 refl) (fld ! refl (stop !)))) (look-in ! 0 (sub ! 1 refl (whole !))))) (from ! (stop !)) (init ! 22 refl (tt, record { fits = p-is })) $
                 elem-back ! O.the-row q os i zeroOrder (O′.lowered o ∷ []) b₀ o₀ i-small $
-                calls-empty-line 𝓤 H A W mem run (o .price) ! fm known-empty-line p-is (and-then ! (load ! (from ! (stop !)) (look ! 20 refl)) (no-more !)) (λ line-is.
+                calls-empty-line 𝓤 H A W mem run (o .price) ! 𝓣 known-empty-line p-is (and-then ! (load ! (from ! (stop !)) (look ! 20 refl)) (no-more !)) (λ line-is.
                 land ! (from ! (stop !)) (init ! 10 refl (line-typed _ line-is)) $
                 assigns ! (of-opd ! (lit ! tt)) (from ! (stop !)) (init ! 11 refl (tt, record { fits = lit< tt })) $
                 forget ! 17 refl $ forget ! 18 refl $ forget ! 19 refl $ forget ! 20 refl $ first ! $
@@ -407,7 +407,7 @@ module _ {M : Type 1} (𝓤 : URA M) (H : Heap 𝓤) (A : Atoms 𝓤) (W : Given
           move ! (2 ∷ []) $ split ! $ move ! (1 ∷ []) $ peeks ! unit (Is unit) (shows 𝓤 H A unit) r (u ∷ []) (λ is.
           land ! (from ! (stop !)) (init ! 33 refl (nothing-lawful 𝓤 H A W .typed r _ is .0)) $
           drop ! $ split ! $ move ! (1 ∷ []) $ drop ! $ move ! (2 ∷ []) $ drop ! $ move ! (2 ∷ 3 ∷ 1 ∷ 0 ∷ []) $
-          calls-answer-of 𝓤 H A W mem run false (t .best) ! fm known-answer-of (t .best-is) (and-then ! (false-lit !) (and-then ! (load ! (from ! (stop !)) (look ! 10 refl)) (no-more !))) (λ is-answer.
+          calls-answer-of 𝓤 H A W mem run false (t .best) ! 𝓣 known-answer-of (t .best-is) (and-then ! (false-lit !) (and-then ! (load ! (from ! (stop !)) (look ! 10 refl)) (no-more !))) (λ is-answer.
           land ! (from ! (stop !)) (init ! 5 refl (answer-typed 𝓤 H A W (answerOf false (t .best)) is-answer)) $
           returns-from ! 5 Post refl (look ! 5 refl) refl $ by ! (exits (answerOf false (t .best)) (zs .0) is-answer (l ∙ t .lists .long) (promise .0, e ∙ promise .1))))))))))
 
@@ -418,7 +418,7 @@ module _ {M : Type 1} (𝓤 : URA M) (H : Heap 𝓤) (A : Atoms 𝓤) (W : Given
           assigns ! (of-opd ! (load ! (from ! (fld ! refl (stop !))) (look-in ! 7 (sub ! 1 refl (whole !))))) (from ! (stop !)) (init ! 10 refl (tt, record { fits = room₀ .0 })) $
           assigns ! (of-opd ! (load ! (from ! (fld ! refl (stop !))) (look-in ! 9 (sub ! 1 refl (whole !))))) (from ! (stop !)) (init ! 18 refl (tt, record { fits = room₁ .0 })) $
           assigns ! (of-opd ! (load ! (from ! (fld ! refl (stop !))) (look-in ! 9 (sub ! 1 refl (whole !))))) (from ! (stop !)) (init ! 19 refl (tt, record { fits = room₁ .0 })) $
-          calls-lists-fit 𝓤 H A W mem run n (length vs₀) (length vs₀) ! fm known-lists-fit (room₀ .0) (room₁ .0) (room₁ .0) (and-then ! (load ! (from ! (stop !)) (look ! 10 refl)) (and-then ! (load ! (from ! (stop !)) (look ! 18 refl)) (and-then ! (load ! (from ! (stop !)) (look ! 19 refl)) (no-more !)))) (λ _.
+          calls-lists-fit 𝓤 H A W mem run n (length vs₀) (length vs₀) ! 𝓣 known-lists-fit (room₀ .0) (room₁ .0) (room₁ .0) (and-then ! (load ! (from ! (stop !)) (look ! 10 refl)) (and-then ! (load ! (from ! (stop !)) (look ! 18 refl)) (and-then ! (load ! (from ! (stop !)) (look ! 19 refl)) (no-more !)))) (λ _.
           land ! (from ! (stop !)) (init ! 17 refl (tt, tt)) $
           assigns ! (un ! (load ! (from ! (stop !)) (look ! 17 refl)) tt) (from ! (stop !)) (init ! 20 refl (tt, tt)) $
           first ! $ branches ! (load ! (from ! (stop !)) (look ! 20 refl))
@@ -428,7 +428,7 @@ module _ {M : Type 1} (𝓤 : URA M) (H : Heap 𝓤) (A : Atoms 𝓤) (W : Given
           -- the lists fit
           (λ fits. skips ! $ exec ! (𝓣 .C) (𝓣 .Λ) E body.t-7 (atRet E Post) $
           forget ! 17 refl $ forget ! 18 refl $ forget ! 19 refl $ forget ! 20 refl $
-          calls-empty-line 𝓤 H A W mem run 0 ! fm known-empty-line (lit< tt) (and-then ! (lit ! tt) (no-more !)) (λ best-is.
+          calls-empty-line 𝓤 H A W mem run 0 ! 𝓣 known-empty-line (lit< tt) (and-then ! (lit ! tt) (no-more !)) (λ best-is.
           land ! (from ! (stop !)) (init ! 11 refl (line-typed _ best-is)) $
           assigns ! (of-opd ! (false-lit !)) (from ! (stop !)) (init ! 12 refl (tt, tt)) $
           assigns ! (of-opd ! (lit ! tt)) (from ! (stop !)) (init ! 13 refl (tt, record { fits = lit< tt })) $
