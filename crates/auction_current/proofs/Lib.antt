@@ -6,3 +6,4 @@ pub mod Kept
 pub mod Added
 pub mod Taken
 pub mod Types
+pub mod Lending

@@ -10,3 +10,4 @@ pub mod Locals
 pub mod Whiles
 pub mod Element
 pub mod LentOn
+pub mod Refs

@@ -1,5 +1,5 @@
 -- A parameter of a function whose MIR is walked by hand: what is had of it at exit, the law that this owes (`Denote/Triple/Walked.antt`), and its machine values. A function's parameters are a tuple of these.
---     value            passed by value, and still owned
+--     value            passed by value: nothing is had of it
 --     number           an unsigned integer
 --     shared-slice     a `&[T]`
 --     kept-slice, gave-slice       a `&mut [T]` that is still owned, at its last list; and one of which only the last list is known
@@ -46,7 +46,7 @@ module _ {n : ℕ} where
 
   -- nothing is said of it at exit, which is a `refl` at any type that is written out
   abbrev pub value : (R : RattleType) (vals : R .Denot → List Val) → Tells R (Is R) vals → ((x : R .Denot) (f : Last (R .exit yes) x) → left (R .exit yes) x f ≡ ftrue) → Parameter {n = n} (plain (λ _. R)) yes
-  value R vals tells silent = record { stay = Walked.stay-none (λ _. R) yes; goes = λ 𝓤 H A W. Walked.goes-none 𝓤 H A W n (λ _. R) yes (λ _. silent); spelled = spelled-value R vals tells }
+  value R vals tells silent = record { stay = Walked.stay-dropped (plain (λ _. R)) yes; goes = λ 𝓤 H A W. Walked.goes-dropped 𝓤 H A W n (plain (λ _. R)) yes (λ _. silent); spelled = spelled-value R vals tells }
 
   abbrev pub number : (w : Width) → Parameter {n = n} (plain (λ _. UInt w)) yes
   number w = value (UInt w) (uint-vals w) (uint-tells w) (λ x f. refl)

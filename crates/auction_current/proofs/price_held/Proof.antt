@@ -38,10 +38,11 @@ use denote.Steps.{only, owned, peeks, heard, nothing}
 use denote.Enum.Laws as EL
 use denote.Triple.Statement.{Contract, Triple}
 use denote.Triple.Call.{calls-at}
-use denote.Triple.Entry.{onEntry}
+use denote.Triple.Entry.{Args, Vals, onEntry}
 use denote.Triple.Spec.{tripleOf}
 use denote.Triple.Clauses.{Lasts, ensured, lasts}
 use denote.Triple.Walked.{says, needs, walkOf, ends-at}
+use Rattle.walks.proofs.Refs.{ref}
 use Rattle.walks.proofs.LentOn.{lends-on}
 use Rattle.walks.proofs.Locals.{empty, full, makes, returns-from, unused}
 use Rattle.walks.proofs.Parameters.{Of, gave-slice, number, stayed}
@@ -87,70 +88,58 @@ module _ {M : Type 1} (𝓤 : URA M) (H : Heap 𝓤) (A : Atoms 𝓤) (mem : Mem
   ClearFrom = tripleOf 𝓤 H A clear-from.signature (clear-from.spec 𝓤 H A mem run)
 
 module _ {M : Type 1} (𝓤 : URA M) (H : Heap 𝓤) (A : Atoms 𝓤) (W : Given 𝓤 H A) (mem : Memory → SProp 𝓤) (run : Routine → Fun 𝓤) (κ₀ κ₁ : Lft) (q₀ q₁ : Share)
-    (xo : RefT (List AuctionOrder)) (held reference : ℕ) (xv : RefT (List ℕ))
-    (room₀ : Room O.the-row (length (now xo))) (held-ok : held < 2 ^ 64) (ok : reference < 2 ^ 32) (room₁ : Room u64 (length (now xv))) (within : held ≤ length (now xo)) where
-  abbrev os : List AuctionOrder
-  os = now xo
-
-  abbrev vs : List ℕ
-  vs = now xv
-
-  abbrev b₀ : ℕ
-  b₀ = xo .ptr .0
-
-  abbrev o₀ : ℕ
-  o₀ = xo .ptr .1
-
+    (b₀ o₀ : ℕ) (γ₀ : GName) (os : List AuctionOrder) (held reference : ℕ) (b₁ o₁ : ℕ) (γ₁ : GName) (vs : List ℕ)
+    (room₀ : Room O.the-row (length os)) (held-ok : held < 2 ^ 64) (ok : reference < 2 ^ 32) (room₁ : Room u64 (length vs)) (within : held ≤ length os) where
   abbrev vo : Val
-  vo = sliceVal (xo .ptr) (length os)
+  vo = sliceVal (b₀, o₀) (length os)
 
   abbrev vv : Val
-  vv = sliceVal (xv .ptr) (length vs)
+  vv = sliceVal (b₁, o₁) (length vs)
 
-  abbrev a : RefT (List AuctionOrder) × (ℕ × (ℕ × (RefT (List ℕ) × Unit {0})))
-  a = (xo, (held, (reference, (xv, tt))))
+  abbrev a : Args price-held.signature (κ₀, (κ₁, tt))
+  a = ((ref b₀ o₀ γ₀ os), (held, (reference, ((ref b₁ o₁ γ₁ vs), tt))))
 
-  abbrev vals : List Val × (List Val × (List Val × (List Val × Unit {0})))
+  abbrev vals : Vals price-held.signature (κ₀, (κ₁, tt))
   vals = (vo ∷ [], (vint w64 held ∷ [], (vint w32 reference ∷ [], (vv ∷ [], tt))))
 
   abbrev Post : Val → SProp 𝓤
   Post = walkOf 𝓤 H A price-held.ended (stayed price-held.ended parameters) (price-held.clauses 𝓤 H A mem run) .post (((κ₀, (κ₁, tt)), (q₀, (q₁, tt)), tt, a, vals), tt)
 
   abbrev Orders : Fml
-  Orders = MutSlice (named 0) κ₀ O.the-row .own xo (vo ∷ [])
+  Orders = MutSlice (named 0) κ₀ O.the-row .own (ref b₀ o₀ γ₀ os) (vo ∷ [])
 
   abbrev Volumes : Fml
-  Volumes = MutSlice (named 1) κ₁ u64 .own xv (vv ∷ [])
+  Volumes = MutSlice (named 1) κ₁ u64 .own (ref b₁ o₁ γ₁ vs) (vv ∷ [])
 
   abbrev Promise : AuctionAnswer → List AuctionOrder → List ℕ → Type 0
   Promise r zs ws = (r ≡ auctionInOne (take held os) reference vs) × (zs ≡ cond (eqb (refusal (take held os) vs vs) 0) (zeroFrom held os) os) × (ws ≡ volumesAfter (take held os) vs)
 
   exits : (r : AuctionAnswer) (zs : List AuctionOrder) (ws : List ℕ) → Is N.the-row r (N′.lowered r ∷ []) → length zs ≡ length os → length ws ≡ length vs → Promise r zs ws
-      → ent 𝓤 (⋆ 𝓤 H A (‵ (finally O.the-row (xo .name) zs) ∷ ‵ (flft κ₀ q₀) ∷ ‵ (finally u64 (xv .name) ws) ∷ ‵ (flft κ₁ q₁) ∷ [])) (Post (N′.lowered r))
+      → ent 𝓤 (⋆ 𝓤 H A (‵ (finally O.the-row γ₀ zs) ∷ ‵ (flft κ₀ q₀) ∷ ‵ (finally u64 γ₁ ws) ∷ ‵ (flft κ₁ q₁) ∷ [])) (Post (N′.lowered r))
   exits r zs ws is lz lw promise =
-      qed W (‵ (finally O.the-row (xo .name) zs) ∷ ‵ (flft κ₀ q₀) ∷ ‵ (finally u64 (xv .name) ws) ∷ ‵ (flft κ₁ q₁) ∷ []) ∵
+      qed W (‵ (finally O.the-row γ₀ zs) ∷ ‵ (flft κ₀ q₀) ∷ ‵ (finally u64 γ₁ ws) ∷ ‵ (flft κ₁ q₁) ∷ []) ∵
       suffices ! _ (ends-at 𝓤 H A price-held.ended (stayed price-held.ended parameters) (price-held.clauses 𝓤 H A mem run) W (((κ₀, (κ₁, tt)), (q₀, (q₁, tt)), tt, a, vals), tt) (N′.lowered r) r (zs, (tt, (tt, (ws, tt)))) (lz, (tt, (tt, (lw, tt))))) $ says ! promise $
       -- the tokens
       nothing ! $ move ! (4 ∷ 0 ∷ []) $ join ! $ move ! (2 ∷ 0 ∷ []) $ join ! $ frame ! $
       -- [how the orders end; how the volumes end]
-      nothing ! $ move ! (2 ∷ 0 ∷ []) $ fjoin ! $ owned ! u32 (Is u32) (uint-makes 𝓤 H A W w32) reference _ (refl, ok) $ fjoin ! $ owned ! usize (Is usize) (uint-makes 𝓤 H A W w64) held _ (refl, held-ok) $ fjoin ! $ move ! (1 ∷ 0 ∷ []) $ fjoin ! $ frame ! $
+      nothing ! $ move ! (2 ∷ 0 ∷ []) $ fjoin ! $ nothing ! $ fjoin ! $ nothing ! $ fjoin ! $ move ! (1 ∷ 0 ∷ []) $ fjoin ! $ frame ! $
       owned ! N.the-row (Is N.the-row) (EL.makes N.the-type N′.the-plain 𝓤 H A) r _ is $ done !
 
   -- the call of `price_and_volumes`, for a lifetime ν under the name δ
   abbrev first-held : GName → RefT (List AuctionOrder)
-  first-held δ = record { ptr = xo .ptr; name = δ; now = take held os }
+  first-held δ = ref b₀ o₀ δ (take held os)
 
   abbrev First : ℕ → GName → ℕ → Fml
-  First ν δ m = ShrSlice (named 0) (ν ∷ []) O.the-row .own (first-held δ) (sliceVal (xo .ptr) m ∷ [])
+  First ν δ m = ShrSlice (named 0) (ν ∷ []) O.the-row .own (first-held δ) (sliceVal (b₀, o₀) m ∷ [])
 
   abbrev Kept : ℕ → Fml
-  Kept ν = KeptPrefix O.the-row κ₀ (ν ∷ []) q₀ (xo .name) b₀ o₀ held os
+  Kept ν = KeptPrefix O.the-row κ₀ (ν ∷ []) q₀ γ₀ b₀ o₀ held os
 
   abbrev lent : GName → RefT (List AuctionOrder) × (ℕ × (RefT (List ℕ) × Unit {0}))
-  lent δ = (first-held δ, (reference, (xv, tt)))
+  lent δ = (first-held δ, (reference, ((ref b₁ o₁ γ₁ vs), tt)))
 
   abbrev to-price : ℕ → GName → Price 𝓤 H A mem run .Ghost
-  to-price ν δ = (((ν ∷ [], (κ₁, tt)), (fullShare, (q₁, tt)), tt, lent δ, (sliceVal (xo .ptr) held ∷ [], (vint w32 reference ∷ [], (vv ∷ [], tt)))), tt)
+  to-price ν δ = (((ν ∷ [], (κ₁, tt)), (fullShare, (q₁, tt)), tt, lent δ, (sliceVal (b₀, o₀) held ∷ [], (vint w32 reference ∷ [], (vv ∷ [], tt)))), tt)
 
   goes-price : (ν : ℕ) (δ : GName) → ent 𝓤 (⋆ 𝓤 H A (‵ (First ν δ held) ∷ ‵ (flft (ν ∷ []) fullShare) ∷ ‵ Volumes ∷ ‵ (flft κ₁ q₁) ∷ [])) (Price 𝓤 H A mem run .pre (to-price ν δ))
   goes-price ν δ =
@@ -163,7 +152,7 @@ module _ {M : Type 1} (𝓤 : URA M) (H : Heap 𝓤) (A : Atoms 𝓤) (W : Given
 
   -- the call of `clear_from`, at the list's own lifetime
   abbrev to-clear-from : ClearFrom 𝓤 H A mem run .Ghost
-  to-clear-from = (((κ₀, tt), (q₀, tt), tt, (xo, (held, tt)), (vo ∷ [], (vint w64 held ∷ [], tt))), tt)
+  to-clear-from = (((κ₀, tt), (q₀, tt), tt, ((ref b₀ o₀ γ₀ os), (held, tt)), (vo ∷ [], (vint w64 held ∷ [], tt))), tt)
 
   goes-clear-from : ent 𝓤 (⋆ 𝓤 H A (‵ Orders ∷ ‵ (flft κ₀ q₀) ∷ [])) (ClearFrom 𝓤 H A mem run .pre to-clear-from)
   goes-clear-from =
@@ -184,7 +173,7 @@ module _ {M : Type 1} (𝓤 : URA M) (H : Heap 𝓤) (A : Atoms 𝓤) (W : Given
           lends-on ! refl (look-in ! 8 (sub ! 0 refl (whole !))) (init ! 12 refl (tt, tt)) (look ! 12 refl) (load ! (from ! (fld ! refl (stop !))) (look-in ! 8 (sub ! 1 refl (whole !)))) (init ! 13 refl (tt, (tt, (record { fits = room₁ .0 }, tt)))) $
           -- the first orders are lent
           lft-new ! tt (λ ν. move ! (1 ∷ 2 ∷ []) $
-          use2 W (later (some (λ (δ : GName). ‵ (First ν δ (length (take held os))) ⊛ ‵ (Kept ν)))) (lends-prefix O.the-row κ₀ (ν ∷ []) q₀ (xo .name) b₀ o₀ 𝓤 H A W (named 0) (named 0) os held) $ await ! tt $ pick ! (λ δ. split ! $
+          use2 W (later (some (λ (δ : GName). ‵ (First ν δ (length (take held os))) ⊛ ‵ (Kept ν)))) (lends-prefix O.the-row κ₀ (ν ∷ []) q₀ γ₀ b₀ o₀ 𝓤 H A W (named 0) (named 0) os held) $ await ! tt $ pick ! (λ δ. split ! $
           rewrite ! 0 (λ (m : ℕ). ‵ (First ν δ m)) (length-take-le held os within) refl $
           move ! (0 ∷ 2 ∷ 3 ∷ 4 ∷ []) $ group ! 4 $ use1 W (raw (Price 𝓤 H A mem run .pre (to-price ν δ))) (goes-price ν δ) $
           -- [what `price_and_volumes` asks; what the orders' holder keeps; the locals]
@@ -199,7 +188,7 @@ module _ {M : Type 1} (𝓤 : URA M) (H : Heap 𝓤) (A : Atoms 𝓤) (W : Given
           land ! (from ! (stop !)) (init ! 9 refl (EL.lawful N.the-type N′.the-laws 𝓤 H A W tt .typed r _ is-u .0)) $ rewrite ! 9 (λ (z : Val). ‵ (fat fullShare N′.mir l₅ 0 z)) (ap only (N′.lowers .val-is r (u ∷ []) is-u)) refl $
           -- the lifetime is ended, and the list comes back
           drop ! $ split ! $ lft-end ! tt $ move ! (0 ∷ 3 ∷ []) $
-          use2 W (later (‵ Orders ⊛ ‵ (flft κ₀ q₀))) (prefix-back O.the-row κ₀ (ν ∷ []) q₀ (xo .name) b₀ o₀ 𝓤 H A W (named 0) (named 0) os held) $ await ! tt $ split ! $
+          use2 W (later (‵ Orders ⊛ ‵ (flft κ₀ q₀))) (prefix-back O.the-row κ₀ (ν ∷ []) q₀ γ₀ b₀ o₀ 𝓤 H A W (named 0) (named 0) os held) $ await ! tt $ split ! $
           move ! (2 ∷ []) $ split ! $ move ! (1 ∷ []) $ drop ! $ move ! (1 ∷ 2 ∷ 3 ∷ 0 ∷ []) $
           -- [the orders; their token; how the volumes end; their token; the locals]
           calls-is-refused 𝓤 H A W mem run r ! 𝓣 known-is-refused is (and-then ! (load ! (from ! (stop !)) (look ! 9 refl)) (no-more !)) (λ _.
@@ -207,7 +196,7 @@ module _ {M : Type 1} (𝓤 : URA M) (H : Heap 𝓤) (A : Atoms 𝓤) (W : Given
           first ! $ branches ! (load ! (from ! (stop !)) (look ! 14 refl))
           -- refused: the list is left as it is
           (λ refused. assigns ! (of-opd ! (load ! (from ! (stop !)) (look ! 9 refl))) (from ! (stop !)) (init ! 4 refl (answer-typed 𝓤 H A W r is)) $
-          use1 W (‵ (finally O.the-row (xo .name) os)) (gives-up 𝓤 H A W (named 0) κ₀ O.the-row xo (length os)) $
+          use1 W (‵ (finally O.the-row γ₀ os)) (gives-up 𝓤 H A W (named 0) κ₀ O.the-row (ref b₀ o₀ γ₀ os) (length os)) $
           returns-from ! 4 Post refl (look ! 4 refl) refl $ by ! (exits r os (ws .1 .1 .0) is refl lw (e .0, held-kept (take held os) reference vs (zeroFrom held os) os r (e .0) (holds (isRefused r) refused), e .1)))
           -- not refused: the list is passed on to `clear_from`
           (λ fine. skips ! $ exec ! (𝓣 .C) (𝓣 .Λ) E body.t-8 (atRet E Post) $
@@ -215,8 +204,8 @@ module _ {M : Type 1} (𝓤 : URA M) (H : Heap 𝓤) (A : Atoms 𝓤) (W : Given
           use2 W (raw (ClearFrom 𝓤 H A mem run .pre to-clear-from)) goes-clear-from $
           -- [what `clear_from` asks; how the volumes end; their token; the locals]
           calls-at ! fm (ClearFrom 𝓤 H A mem run) known-clear-from to-clear-from (and-then ! (load ! (from ! (stop !)) (look ! 16 refl)) (and-then ! (load ! (from ! (stop !)) (look ! 5 refl)) (no-more !))) (λ u′.
-          use1 W (later (some (λ (r′ : Unit {0}). ((‵ (flft κ₀ q₀) ⊛ ‵ ftrue) ⊛ ‵ (unit .own r′ (u′ ∷ []))) ⊛ raw (ensured 𝓤 H A clear-from.ended (clear-from.clauses 𝓤 H A mem run) (κ₀, tt) (xo, (held, tt)) tt r′)))) (id⊢ 𝓤 _) $ await ! tt $ pick ! (λ r′.
-          split ! $ move ! (1 ∷ []) $ use1 W (some (λ (zs : Lasts clear-from.ended (κ₀, tt) (xo, (held, tt))). ‵ (lasts clear-from.ended (κ₀, tt) (xo, (held, tt)) zs) ⊛ raw (fact 𝓤 (zs .0 ≡ zeroFrom held os)))) (id⊢ 𝓤 _) $ pick ! (λ zs.
+          use1 W (later (some (λ (r′ : Unit {0}). ((‵ (flft κ₀ q₀) ⊛ ‵ ftrue) ⊛ ‵ (unit .own r′ (u′ ∷ []))) ⊛ raw (ensured 𝓤 H A clear-from.ended (clear-from.clauses 𝓤 H A mem run) (κ₀, tt) ((ref b₀ o₀ γ₀ os), (held, tt)) tt r′)))) (id⊢ 𝓤 _) $ await ! tt $ pick ! (λ r′.
+          split ! $ move ! (1 ∷ []) $ use1 W (some (λ (zs : Lasts clear-from.ended (κ₀, tt) ((ref b₀ o₀ γ₀ os), (held, tt))). ‵ (lasts clear-from.ended (κ₀, tt) ((ref b₀ o₀ γ₀ os), (held, tt)) zs) ⊛ raw (fact 𝓤 (zs .0 ≡ zeroFrom held os)))) (id⊢ 𝓤 _) $ pick ! (λ zs.
           split ! $ move ! (1 ∷ []) $ heard ! (zs .0 ≡ zeroFrom held os) (λ e′. fsplit ! $ fsplit ! $ move ! (1 ∷ []) $ feqL ! (λ lz.
           -- [how the orders end; …; the token and the result; how the volumes end; their token; the locals]
           move ! (2 ∷ []) $ split ! $ move ! (1 ∷ []) $ peeks ! unit (Is unit) (shows 𝓤 H A unit) r′ (u′ ∷ []) (λ is′.
@@ -240,7 +229,7 @@ module _ {M : Type 1} (𝓤 : URA M) (H : Heap 𝓤) (A : Atoms 𝓤) (W : Given
 pub price-held-spec : {M : Type 1} → stated.statement M
 unfolding code.routine
 price-held-spec 𝓤 H 𝓜 𝓖 𝓡 = walk-proves 𝓤 H 𝓜 𝓖 𝓡 code.env price-held.ended parameters (price-held.clauses 𝓤 H (𝓖 .A) (𝓜 .mem) (𝓡 .run)) #price-held code.function (code.unfolded 𝓤 H 𝓜 𝓡) (λ 𝓣 known κs qs bounds a g are. needs 𝓤 (a .1 .0 ≤ length (now (a .0))) _ (λ within.
-    walk 𝓤 H (𝓖 .A) (givenOf 𝓤 H 𝓜 𝓖) (𝓜 .mem) (𝓡 .run) (κs .0) (κs .1 .0) (qs .0) (qs .1 .0) (a .0) (a .1 .0) (a .1 .1 .0) (a .1 .1 .1 .0) (are .0 .0 .1) (are .1 .0 .1) (are .1 .1 .0 .1) (are .1 .1 .1 .0 .0 .1) within 𝓣
+    walk 𝓤 H (𝓖 .A) (givenOf 𝓤 H 𝓜 𝓖) (𝓜 .mem) (𝓡 .run) (κs .0) (κs .1 .0) (qs .0) (qs .1 .0) (a .0 .ptr .0) (a .0 .ptr .1) (a .0 .name) (a .0 .now) (a .1 .0) (a .1 .1 .0) (a .1 .1 .1 .0 .ptr .0) (a .1 .1 .1 .0 .ptr .1) (a .1 .1 .1 .0 .name) (a .1 .1 .1 .0 .now) (are .0 .0 .1) (are .1 .0 .1) (are .1 .1 .0 .1) (are .1 .1 .1 .0 .0 .1) within 𝓣
     (known .cites (Price 𝓤 H (𝓖 .A) (𝓜 .mem) (𝓡 .run)) code.calls-auction·volumes·price-and-volumes (price-thm.met 𝓤 H 𝓜 𝓖 𝓡))
     (known .cites (IsRefused 𝓤 H (𝓖 .A) (𝓜 .mem) (𝓡 .run)) code.calls-auction-lines·is-refused (is-refused-thm.met 𝓤 H 𝓜 𝓖 𝓡))
     (known .cites (ClearFrom 𝓤 H (𝓖 .A) (𝓜 .mem) (𝓡 .run)) code.calls-auction-list·clear-from (clear-from-thm.met 𝓤 H 𝓜 𝓖 𝓡))))
