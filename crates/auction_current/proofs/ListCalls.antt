@@ -18,9 +18,9 @@ use base.Logic.{SProp, ent, id⊢, snd∗, exE}
 use base.Fml.{Lft, GName, Share, Fml, ftrue, flft}
 use prog.Memory.{Memory}
 use prog.Routine.{Routine}
-use prog.Wp.{Heap, Env, Calls, Loops}
+use prog.Wp.{Heap, Env, Loops, Tables}
 use ghost.Atoms.{Atoms, sem}
-use sound.WpLaws.{FmC}
+use sound.WpLaws.{fmOf}
 use contract.Monad.{Fun, fact}
 use types.Kit.{Given, Item, Post, runs, lands, Seq, ‵, raw, _⊛_, ⋆, some, later, _$_, _∵_, !, qed, move, drop, rewrite, use1, use2, use3, split, join, pick, fsplit, fjoin, feqL, frame, await, done}
 use types.Run.{Opds}
@@ -92,17 +92,17 @@ module _ (κ : Lft) (q : Share) (γ : GName) (b o n : ℕ) where
       abbrev Said-open-gap : AuctionOrder → List AuctionOrder → Type 0
       Said-open-gap r zs = (r ≡ getD ys (count - 1) zeroOrder) × (zs ≡ gapOpened place count order ys)
 
-      pub calls-open-gap : {K : Type 0} {Γ : List (Item 𝓤)} {E : Env 𝓤 H} {C : Calls 𝓤 H} {Λ : Loops 𝓤 H} {p : Post 𝓤 H} {xs : List Operand} {d : Place} {rest : Body} → K → FmC 𝓤 H (W .laws) C → Triple 𝓤 (C #open-gap) (OpenGap 𝓤 H A mem run)
+      pub calls-open-gap : {K : Type 0} {Γ : List (Item 𝓤)} {E : Env 𝓤 H} {Λ : Loops 𝓤 H} {p : Post 𝓤 H} {xs : List Operand} {d : Place} {rest : Body} → K → (𝓣 : Tables 𝓤 H) → Triple 𝓤 (𝓣 .C #open-gap) (OpenGap 𝓤 H A mem run)
           → length ys ≡ n → (place < count) × (count ≤ length ys) → place < 2 ^ 64 → count < 2 ^ 64 → Is O.the-row order (O′.lowered order ∷ []) → ((ν : ℕ) (δ : GName) → Opds K W (raw (OpenGap 𝓤 H A mem run .pre (to-open-gap ν δ)) ∷ ‵ (Kept ν δ ys) ∷ Γ) E xs (sliceVal (b, o) n ∷ vint w64 place ∷ vint w64 count ∷ O′.lowered order ∷ []))
-          → (Is O.the-row (getD ys (count - 1) zeroOrder) (O′.lowered (getD ys (count - 1) zeroOrder) ∷ []) → length (gapOpened place count order ys) ≡ n → Seq K W (‵ (Orders (gapOpened place count order ys)) ∷ ‵ (flft κ q) ∷ Γ) (lands C Λ E d (O′.lowered (getD ys (count - 1) zeroOrder)) rest p))
-          → Seq K W (‵ (Orders ys) ∷ ‵ (flft κ q) ∷ Γ) (runs C Λ E (seq (call #open-gap xs d) rest) p)
-      calls-open-gap {K} {Γ} {E} {C} {Λ} {p} {xs} {d} {rest} t fm known long within place-is count-is order-is os next =
+          → (Is O.the-row (getD ys (count - 1) zeroOrder) (O′.lowered (getD ys (count - 1) zeroOrder) ∷ []) → length (gapOpened place count order ys) ≡ n → Seq K W (‵ (Orders (gapOpened place count order ys)) ∷ ‵ (flft κ q) ∷ Γ) (lands (𝓣 .C) Λ E d (O′.lowered (getD ys (count - 1) zeroOrder)) rest p))
+          → Seq K W (‵ (Orders ys) ∷ ‵ (flft κ q) ∷ Γ) (runs (𝓣 .C) Λ E (seq (call #open-gap xs d) rest) p)
+      calls-open-gap {K} {Γ} {E} {Λ} {p} {xs} {d} {rest} t 𝓣 known long within place-is count-is order-is os next =
           lft-new t tt (λ ν. move t (1 ∷ 2 ∷ []) $ rewrite t 0 (λ (m : ℕ). ‵ (MutSlice (named 0) κ O.the-row .own (list γ ys) (sliceVal (b, o) m ∷ []))) (sym long) refl $
           use2 W (later (some (λ (δ : GName). ‵ (MutSlice (named 0) (ν ∷ []) O.the-row .own (list δ ys) (sliceVal (b, o) (length ys) ∷ [])) ⊛ ‵ (Kept ν δ ys)))) (lends-again O.the-row κ (ν ∷ []) q γ b o 𝓤 H A W (named 0) (named 0) ys) $ await t tt $ pick t (λ δ. split t $
           -- [the list, lent again; what its holder keeps; the new token; …]
           rewrite t 0 (λ (m : ℕ). ‵ (MutSlice (named 0) (ν ∷ []) O.the-row .own (list δ ys) (sliceVal (b, o) m ∷ []))) long refl $ move t (0 ∷ 2 ∷ []) $
           use2 W (raw (OpenGap 𝓤 H A mem run .pre (to-open-gap ν δ))) (goes-open-gap within place-is count-is order-is ν δ) $
-          calls-at t fm (OpenGap 𝓤 H A mem run) known (to-open-gap ν δ) (os ν δ) (λ u.
+          calls-at t (fmOf 𝓤 H (W .laws) 𝓣) (OpenGap 𝓤 H A mem run) known (to-open-gap ν δ) (os ν δ) (λ u.
           use1 W (later (some (λ (r : AuctionOrder). ((‵ (flft (ν ∷ []) fullShare) ⊛ ‵ ftrue) ⊛ ‵ (O.the-row .own r (u ∷ []))) ⊛ raw (ensured 𝓤 H A open-gap.ended (open-gap.clauses 𝓤 H A mem run) (ν ∷ [], tt) (list δ ys, (place, (count, (order, tt)))) tt r)))) (id⊢ 𝓤 _) $ await t tt $ pick t (λ r.
           split t $ move t (1 ∷ []) $ use1 W (some (λ (zs : Lasts open-gap.ended (ν ∷ [], tt) (list δ ys, (place, (count, (order, tt))))). ‵ (lasts open-gap.ended (ν ∷ [], tt) (list δ ys, (place, (count, (order, tt)))) zs) ⊛ raw (fact 𝓤 (Said-open-gap r (zs .0))))) (id⊢ 𝓤 _) $ pick t (λ zs.
           split t $ move t (1 ∷ []) $ heard t (Said-open-gap r (zs .0)) (λ e. fsplit t $ fsplit t $ move t (1 ∷ []) $ feqL t (λ l.
@@ -114,8 +114,8 @@ module _ (κ : Lft) (q : Share) (γ : GName) (b o n : ℕ) where
           move t (2 ∷ []) $ drop t $ move t (3 ∷ []) $ drop t $ move t (2 ∷ []) $ facts t O.the-row (Is O.the-row) (shows 𝓤 H A O.the-row) r (u ∷ []) (λ is.
           landed u (subst (λ (z : AuctionOrder). Is O.the-row z (u ∷ [])) (e .0) is) (ap length (sym (e .1)) ∙ l ∙ long)))))))))
         where
-          landed : (u : Val) → Is O.the-row (getD ys (count - 1) zeroOrder) (u ∷ []) → length (gapOpened place count order ys) ≡ n → Seq K W (‵ (Orders (gapOpened place count order ys)) ∷ ‵ (flft κ q) ∷ Γ) (lands C Λ E d u rest p)
-          landed u is l = subst (λ (z : Val). Seq K W (‵ (Orders (gapOpened place count order ys)) ∷ ‵ (flft κ q) ∷ Γ) (lands C Λ E d z rest p)) (sym (ap only (O′.lowers .val-is (getD ys (count - 1) zeroOrder) (u ∷ []) is))) (next (subst (Is O.the-row (getD ys (count - 1) zeroOrder)) (O′.lowers .val-is (getD ys (count - 1) zeroOrder) (u ∷ []) is) is) l)
+          landed : (u : Val) → Is O.the-row (getD ys (count - 1) zeroOrder) (u ∷ []) → length (gapOpened place count order ys) ≡ n → Seq K W (‵ (Orders (gapOpened place count order ys)) ∷ ‵ (flft κ q) ∷ Γ) (lands (𝓣 .C) Λ E d u rest p)
+          landed u is l = subst (λ (z : Val). Seq K W (‵ (Orders (gapOpened place count order ys)) ∷ ‵ (flft κ q) ∷ Γ) (lands (𝓣 .C) Λ E d z rest p)) (sym (ap only (O′.lowers .val-is (getD ys (count - 1) zeroOrder) (u ∷ []) is))) (next (subst (Is O.the-row (getD ys (count - 1) zeroOrder)) (O′.lowers .val-is (getD ys (count - 1) zeroOrder) (u ∷ []) is) is) l)
 
     -- `close_gap`
     module _ (ys : List AuctionOrder) (place : ℕ) (count : ℕ) where
@@ -130,17 +130,17 @@ module _ (κ : Lft) (q : Share) (γ : GName) (b o n : ℕ) where
       abbrev Said-close-gap : AuctionOrder → List AuctionOrder → Type 0
       Said-close-gap r zs = (r ≡ getD ys place zeroOrder) × (zs ≡ gapClosed place count ys)
 
-      pub calls-close-gap : {K : Type 0} {Γ : List (Item 𝓤)} {E : Env 𝓤 H} {C : Calls 𝓤 H} {Λ : Loops 𝓤 H} {p : Post 𝓤 H} {xs : List Operand} {d : Place} {rest : Body} → K → FmC 𝓤 H (W .laws) C → Triple 𝓤 (C #close-gap) (CloseGap 𝓤 H A mem run)
+      pub calls-close-gap : {K : Type 0} {Γ : List (Item 𝓤)} {E : Env 𝓤 H} {Λ : Loops 𝓤 H} {p : Post 𝓤 H} {xs : List Operand} {d : Place} {rest : Body} → K → (𝓣 : Tables 𝓤 H) → Triple 𝓤 (𝓣 .C #close-gap) (CloseGap 𝓤 H A mem run)
           → length ys ≡ n → (place < count) × (count ≤ length ys) → place < 2 ^ 64 → count < 2 ^ 64 → ((ν : ℕ) (δ : GName) → Opds K W (raw (CloseGap 𝓤 H A mem run .pre (to-close-gap ν δ)) ∷ ‵ (Kept ν δ ys) ∷ Γ) E xs (sliceVal (b, o) n ∷ vint w64 place ∷ vint w64 count ∷ []))
-          → (Is O.the-row (getD ys place zeroOrder) (O′.lowered (getD ys place zeroOrder) ∷ []) → length (gapClosed place count ys) ≡ n → Seq K W (‵ (Orders (gapClosed place count ys)) ∷ ‵ (flft κ q) ∷ Γ) (lands C Λ E d (O′.lowered (getD ys place zeroOrder)) rest p))
-          → Seq K W (‵ (Orders ys) ∷ ‵ (flft κ q) ∷ Γ) (runs C Λ E (seq (call #close-gap xs d) rest) p)
-      calls-close-gap {K} {Γ} {E} {C} {Λ} {p} {xs} {d} {rest} t fm known long within place-is count-is os next =
+          → (Is O.the-row (getD ys place zeroOrder) (O′.lowered (getD ys place zeroOrder) ∷ []) → length (gapClosed place count ys) ≡ n → Seq K W (‵ (Orders (gapClosed place count ys)) ∷ ‵ (flft κ q) ∷ Γ) (lands (𝓣 .C) Λ E d (O′.lowered (getD ys place zeroOrder)) rest p))
+          → Seq K W (‵ (Orders ys) ∷ ‵ (flft κ q) ∷ Γ) (runs (𝓣 .C) Λ E (seq (call #close-gap xs d) rest) p)
+      calls-close-gap {K} {Γ} {E} {Λ} {p} {xs} {d} {rest} t 𝓣 known long within place-is count-is os next =
           lft-new t tt (λ ν. move t (1 ∷ 2 ∷ []) $ rewrite t 0 (λ (m : ℕ). ‵ (MutSlice (named 0) κ O.the-row .own (list γ ys) (sliceVal (b, o) m ∷ []))) (sym long) refl $
           use2 W (later (some (λ (δ : GName). ‵ (MutSlice (named 0) (ν ∷ []) O.the-row .own (list δ ys) (sliceVal (b, o) (length ys) ∷ [])) ⊛ ‵ (Kept ν δ ys)))) (lends-again O.the-row κ (ν ∷ []) q γ b o 𝓤 H A W (named 0) (named 0) ys) $ await t tt $ pick t (λ δ. split t $
           -- [the list, lent again; what its holder keeps; the new token; …]
           rewrite t 0 (λ (m : ℕ). ‵ (MutSlice (named 0) (ν ∷ []) O.the-row .own (list δ ys) (sliceVal (b, o) m ∷ []))) long refl $ move t (0 ∷ 2 ∷ []) $
           use2 W (raw (CloseGap 𝓤 H A mem run .pre (to-close-gap ν δ))) (goes-close-gap within place-is count-is ν δ) $
-          calls-at t fm (CloseGap 𝓤 H A mem run) known (to-close-gap ν δ) (os ν δ) (λ u.
+          calls-at t (fmOf 𝓤 H (W .laws) 𝓣) (CloseGap 𝓤 H A mem run) known (to-close-gap ν δ) (os ν δ) (λ u.
           use1 W (later (some (λ (r : AuctionOrder). ((‵ (flft (ν ∷ []) fullShare) ⊛ ‵ ftrue) ⊛ ‵ (O.the-row .own r (u ∷ []))) ⊛ raw (ensured 𝓤 H A close-gap.ended (close-gap.clauses 𝓤 H A mem run) (ν ∷ [], tt) (list δ ys, (place, (count, tt))) tt r)))) (id⊢ 𝓤 _) $ await t tt $ pick t (λ r.
           split t $ move t (1 ∷ []) $ use1 W (some (λ (zs : Lasts close-gap.ended (ν ∷ [], tt) (list δ ys, (place, (count, tt)))). ‵ (lasts close-gap.ended (ν ∷ [], tt) (list δ ys, (place, (count, tt))) zs) ⊛ raw (fact 𝓤 (Said-close-gap r (zs .0))))) (id⊢ 𝓤 _) $ pick t (λ zs.
           split t $ move t (1 ∷ []) $ heard t (Said-close-gap r (zs .0)) (λ e. fsplit t $ fsplit t $ move t (1 ∷ []) $ feqL t (λ l.
@@ -152,8 +152,8 @@ module _ (κ : Lft) (q : Share) (γ : GName) (b o n : ℕ) where
           move t (2 ∷ []) $ drop t $ move t (3 ∷ []) $ drop t $ move t (2 ∷ []) $ facts t O.the-row (Is O.the-row) (shows 𝓤 H A O.the-row) r (u ∷ []) (λ is.
           landed u (subst (λ (z : AuctionOrder). Is O.the-row z (u ∷ [])) (e .0) is) (ap length (sym (e .1)) ∙ l ∙ long)))))))))
         where
-          landed : (u : Val) → Is O.the-row (getD ys place zeroOrder) (u ∷ []) → length (gapClosed place count ys) ≡ n → Seq K W (‵ (Orders (gapClosed place count ys)) ∷ ‵ (flft κ q) ∷ Γ) (lands C Λ E d u rest p)
-          landed u is l = subst (λ (z : Val). Seq K W (‵ (Orders (gapClosed place count ys)) ∷ ‵ (flft κ q) ∷ Γ) (lands C Λ E d z rest p)) (sym (ap only (O′.lowers .val-is (getD ys place zeroOrder) (u ∷ []) is))) (next (subst (Is O.the-row (getD ys place zeroOrder)) (O′.lowers .val-is (getD ys place zeroOrder) (u ∷ []) is) is) l)
+          landed : (u : Val) → Is O.the-row (getD ys place zeroOrder) (u ∷ []) → length (gapClosed place count ys) ≡ n → Seq K W (‵ (Orders (gapClosed place count ys)) ∷ ‵ (flft κ q) ∷ Γ) (lands (𝓣 .C) Λ E d u rest p)
+          landed u is l = subst (λ (z : Val). Seq K W (‵ (Orders (gapClosed place count ys)) ∷ ‵ (flft κ q) ∷ Γ) (lands (𝓣 .C) Λ E d z rest p)) (sym (ap only (O′.lowers .val-is (getD ys place zeroOrder) (u ∷ []) is))) (next (subst (Is O.the-row (getD ys place zeroOrder)) (O′.lowers .val-is (getD ys place zeroOrder) (u ∷ []) is) is) l)
 
     -- `any_bad`, of the first k orders
     module _ (ys : List AuctionOrder) (k : ℕ) where
@@ -170,17 +170,17 @@ module _ (κ : Lft) (q : Share) (γ : GName) (b o n : ℕ) where
       any-bad-said : (ν : ℕ) (δ : GName) (r : Bool) → ent 𝓤 (ensured 𝓤 H A any-bad.ended (any-bad.clauses 𝓤 H A mem run) (ν ∷ [], tt) (list δ (take k ys), tt) tt r) (fact 𝓤 (r ≡ any badOrder (take k ys)))
       any-bad-said ν δ r = exE 𝓤 _ (λ ws. snd∗ 𝓤 (sem 𝓤 H A (lasts any-bad.ended (ν ∷ [], tt) (list δ (take k ys), tt) ws)) (fact 𝓤 (r ≡ any badOrder (take k ys))))
 
-      pub calls-any-bad : {K : Type 0} {Γ : List (Item 𝓤)} {E : Env 𝓤 H} {C : Calls 𝓤 H} {Λ : Loops 𝓤 H} {p : Post 𝓤 H} {xs : List Operand} {d : Place} {rest : Body} → K → FmC 𝓤 H (W .laws) C → Triple 𝓤 (C #any-bad) (AnyBad 𝓤 H A mem run)
+      pub calls-any-bad : {K : Type 0} {Γ : List (Item 𝓤)} {E : Env 𝓤 H} {Λ : Loops 𝓤 H} {p : Post 𝓤 H} {xs : List Operand} {d : Place} {rest : Body} → K → (𝓣 : Tables 𝓤 H) → Triple 𝓤 (𝓣 .C #any-bad) (AnyBad 𝓤 H A mem run)
           → length ys ≡ n → k ≤ length ys → ((ν : ℕ) (δ : GName) → Opds K W (raw (AnyBad 𝓤 H A mem run .pre (to-any-bad ν δ)) ∷ ‵ (KeptPrefix O.the-row κ (ν ∷ []) q γ b o k ys) ∷ Γ) E xs (sliceVal (b, o) k ∷ []))
-          → Seq K W (‵ (Orders ys) ∷ ‵ (flft κ q) ∷ Γ) (lands C Λ E d (vbool (any badOrder (take k ys))) rest p)
-          → Seq K W (‵ (Orders ys) ∷ ‵ (flft κ q) ∷ Γ) (runs C Λ E (seq (call #any-bad xs d) rest) p)
-      calls-any-bad {K} {Γ} {E} {C} {Λ} {p} {xs} {d} {rest} t fm known long within os next =
+          → Seq K W (‵ (Orders ys) ∷ ‵ (flft κ q) ∷ Γ) (lands (𝓣 .C) Λ E d (vbool (any badOrder (take k ys))) rest p)
+          → Seq K W (‵ (Orders ys) ∷ ‵ (flft κ q) ∷ Γ) (runs (𝓣 .C) Λ E (seq (call #any-bad xs d) rest) p)
+      calls-any-bad {K} {Γ} {E} {Λ} {p} {xs} {d} {rest} t 𝓣 known long within os next =
           lft-new t tt (λ ν. move t (1 ∷ 2 ∷ []) $ rewrite t 0 (λ (m : ℕ). ‵ (MutSlice (named 0) κ O.the-row .own (list γ ys) (sliceVal (b, o) m ∷ []))) (sym long) refl $
           use2 W (later (some (λ (δ : GName). ‵ (First ν δ (length (take k ys))) ⊛ ‵ (KeptPrefix O.the-row κ (ν ∷ []) q γ b o k ys)))) (lends-prefix O.the-row κ (ν ∷ []) q γ b o 𝓤 H A W (named 0) (named 0) ys k) $ await t tt $ pick t (λ δ. split t $
           -- [the first k orders; what the holder keeps; the new token; …]
           rewrite t 0 (λ (m : ℕ). ‵ (First ν δ m)) (length-take-le k ys within) refl $ move t (0 ∷ 2 ∷ []) $
           use2 W (raw (AnyBad 𝓤 H A mem run .pre (to-any-bad ν δ))) (goes-any-bad ν δ) $
-          calls-at t fm (AnyBad 𝓤 H A mem run) known (to-any-bad ν δ) (os ν δ) (λ u.
+          calls-at t (fmOf 𝓤 H (W .laws) 𝓣) (AnyBad 𝓤 H A mem run) known (to-any-bad ν δ) (os ν δ) (λ u.
           use1 W (later (some (λ (r : Bool). ((‵ (flft (ν ∷ []) fullShare) ⊛ ‵ ftrue) ⊛ ‵ (bool .own r (u ∷ []))) ⊛ raw (ensured 𝓤 H A any-bad.ended (any-bad.clauses 𝓤 H A mem run) (ν ∷ [], tt) (list δ (take k ys), tt) tt r)))) (id⊢ 𝓤 _) $ await t tt $ pick t (λ r.
           split t $ move t (1 ∷ []) $ use1 W (raw (fact 𝓤 (r ≡ any badOrder (take k ys)))) (any-bad-said ν δ r) $ heard t (r ≡ any badOrder (take k ys)) (λ e.
           -- [the token and the answer; what the holder keeps; …]: the lifetime is ended, and the list comes back
@@ -188,4 +188,4 @@ module _ (κ : Lft) (q : Share) (γ : GName) (b o n : ℕ) where
           use2 W (later (‵ (MutSlice (named 0) κ O.the-row .own (list γ ys) (sliceVal (b, o) (length ys) ∷ [])) ⊛ ‵ (flft κ q))) (prefix-back O.the-row κ (ν ∷ []) q γ b o 𝓤 H A W (named 0) (named 0) ys k) $ await t tt $ split t $
           rewrite t 0 (λ (m : ℕ). ‵ (MutSlice (named 0) κ O.the-row .own (list γ ys) (sliceVal (b, o) m ∷ []))) long refl $
           move t (2 ∷ []) $ drop t $ move t (2 ∷ []) $ facts t bool (Is bool) (shows 𝓤 H A bool) r (u ∷ []) (λ is.
-          subst (λ (z : Val). Seq K W (‵ (Orders ys) ∷ ‵ (flft κ q) ∷ Γ) (lands C Λ E d z rest p)) (ap vbool (sym e) ∙ sym (ap only (bool-tells r (u ∷ []) is))) next))))))
+          subst (λ (z : Val). Seq K W (‵ (Orders ys) ∷ ‵ (flft κ q) ∷ Γ) (lands (𝓣 .C) Λ E d z rest p)) (ap vbool (sym e) ∙ sym (ap only (bool-tells r (u ∷ []) is))) next))))))

@@ -15,9 +15,9 @@ use base.Logic.{SProp, ent, id⊢}
 use base.Fml.{Lft, GName, Share, Fml, ftrue, flft}
 use prog.Memory.{Memory}
 use prog.Routine.{Routine}
-use prog.Wp.{Heap, Env, Calls, Loops}
+use prog.Wp.{Heap, Env, Loops, Tables}
 use ghost.Atoms.{Atoms}
-use sound.WpLaws.{FmC}
+use sound.WpLaws.{fmOf}
 use contract.Monad.{Fun, fact}
 use types.Kit.{Given, Item, Post, runs, lands, Seq, ‵, raw, _⊛_, ⋆, some, later, _$_, _∵_, !, qed, move, drop, rewrite, use1, use2, use3, split, join, group, pick, fsplit, fjoin, feqL, frame, await, done}
 use types.Run.{Opds}
@@ -89,19 +89,19 @@ module _ (κ : Lft) (q : Share) (γ : GName) (b o n : ℕ) (ℓ : Lifetime) (κ�
     abbrev Said : AuctionAnswer → List AuctionOrder → List ℕ → Type 0
     Said r zs ws = (r ≡ auctionInOne (take k ys) reference vs) × (zs ≡ cond (eqb (refusal (take k ys) vs vs) 0) (zeroFrom k ys) ys) × (ws ≡ volumesAfter (take k ys) vs)
 
-    pub calls-price-held : {K : Type 0} {Γ : List (Item 𝓤)} {E : Env 𝓤 H} {C : Calls 𝓤 H} {Λ : Loops 𝓤 H} {p : Post 𝓤 H} {xs : List Operand} {d : Place} {rest : Body} → K → FmC 𝓤 H (W .laws) C → Triple 𝓤 (C #price-held) (PriceHeld 𝓤 H A mem run)
+    pub calls-price-held : {K : Type 0} {Γ : List (Item 𝓤)} {E : Env 𝓤 H} {Λ : Loops 𝓤 H} {p : Post 𝓤 H} {xs : List Operand} {d : Place} {rest : Body} → K → (𝓣 : Tables 𝓤 H) → Triple 𝓤 (𝓣 .C #price-held) (PriceHeld 𝓤 H A mem run)
         → length ys ≡ n → k ≤ length ys → k < 2 ^ 64 → reference < 2 ^ 32
         → ((ν : ℕ) (δ : GName) → Opds K W (raw (PriceHeld 𝓤 H A mem run .pre (to-price-held ν δ)) ∷ ‵ (Kept κ q γ b o n ν δ ys) ∷ Γ) E xs (sliceVal (b, o) n ∷ vint w64 k ∷ vint w32 reference ∷ vv ∷ []))
         → ((r : AuctionAnswer) (zs : List AuctionOrder) (ws : List ℕ) → Priced ys k reference vs r zs ws
-        → Seq K W (‵ (Orders κ q γ b o n zs) ∷ ‵ (flft κ q) ∷ ‵ (finally u64 (xv .name) ws) ∷ ‵ (flft κ′ q′) ∷ Γ) (lands C Λ E d (N′.lowered r) rest p))
-        → Seq K W (‵ (Orders κ q γ b o n ys) ∷ ‵ (flft κ q) ∷ ‵ Volumes ∷ ‵ (flft κ′ q′) ∷ Γ) (runs C Λ E (seq (call #price-held xs d) rest) p)
-    calls-price-held {K} {Γ} {E} {C} {Λ} {p} {xs} {d} {rest} t fm known long within k-is reference-is os next =
+        → Seq K W (‵ (Orders κ q γ b o n zs) ∷ ‵ (flft κ q) ∷ ‵ (finally u64 (xv .name) ws) ∷ ‵ (flft κ′ q′) ∷ Γ) (lands (𝓣 .C) Λ E d (N′.lowered r) rest p))
+        → Seq K W (‵ (Orders κ q γ b o n ys) ∷ ‵ (flft κ q) ∷ ‵ Volumes ∷ ‵ (flft κ′ q′) ∷ Γ) (runs (𝓣 .C) Λ E (seq (call #price-held xs d) rest) p)
+    calls-price-held {K} {Γ} {E} {Λ} {p} {xs} {d} {rest} t 𝓣 known long within k-is reference-is os next =
         lft-new t tt (λ ν. move t (1 ∷ 2 ∷ []) $ rewrite t 0 (λ (m : ℕ). ‵ (MutSlice (named 0) κ O.the-row .own (list κ q γ b o n γ ys) (sliceVal (b, o) m ∷ []))) (sym long) refl $
         use2 W (later (some (λ (δ : GName). ‵ (Lent ν δ ys (length ys)) ⊛ ‵ (Kept κ q γ b o n ν δ ys)))) (lends-again O.the-row κ (ν ∷ []) q γ b o 𝓤 H A W (named 0) (named 0) ys) $ await t tt $ pick t (λ δ. split t $
         -- [the list, lent again; what its holder keeps; the new token; the volumes; their token; …]
         rewrite t 0 (λ (m : ℕ). ‵ (Lent ν δ ys m)) long refl $ move t (0 ∷ 2 ∷ 3 ∷ 4 ∷ []) $ group t 4 $
         use1 W (raw (PriceHeld 𝓤 H A mem run .pre (to-price-held ν δ))) (goes-price-held within k-is reference-is ν δ) $
-        calls-at t fm (PriceHeld 𝓤 H A mem run) known (to-price-held ν δ) (os ν δ) (λ u.
+        calls-at t (fmOf 𝓤 H (W .laws) 𝓣) (PriceHeld 𝓤 H A mem run) known (to-price-held ν δ) (os ν δ) (λ u.
         use1 W (later (some (λ (r : AuctionAnswer). ((‵ (flft (ν ∷ []) fullShare) ⊛ ‵ (flft κ′ q′) ⊛ ‵ ftrue) ⊛ ‵ (N.the-row .own r (u ∷ []))) ⊛ raw (ensured 𝓤 H A price-held.ended (price-held.clauses 𝓤 H A mem run) (ν ∷ [], (κ′, tt)) (handed δ) tt r)))) (id⊢ 𝓤 _) $ await t tt $ pick t (λ r.
         split t $ move t (1 ∷ []) $ use1 W (some (λ (zs : Lasts price-held.ended (ν ∷ [], (κ′, tt)) (handed δ)). ‵ (lasts price-held.ended (ν ∷ [], (κ′, tt)) (handed δ) zs) ⊛ raw (fact 𝓤 (Said r (zs .0) (zs .1 .1 .1 .0))))) (id⊢ 𝓤 _) $ pick t (λ zs.
         split t $ move t (1 ∷ []) $ heard t (Said r (zs .0) (zs .1 .1 .1 .0)) (λ e. fsplit t $ fsplit t $ move t (1 ∷ []) $ feqL t (λ lz. move t (1 ∷ []) $ fsplit t $ drop t $ fsplit t $ drop t $ fsplit t $ fsplit t $ move t (1 ∷ []) $ feqL t (λ lw. move t (1 ∷ []) $ drop t $
@@ -114,7 +114,7 @@ module _ (κ : Lft) (q : Share) (γ : GName) (b o n : ℕ) (ℓ : Lifetime) (κ�
         landed u r (zs .0) (zs .1 .1 .1 .0) e lz lw is-u)))))))))
       where
         landed : (u : Val) (r : AuctionAnswer) (zs : List AuctionOrder) (ws : List ℕ) → Said r zs ws → length zs ≡ length ys → length ws ≡ length vs → Is N.the-row r (u ∷ [])
-            → Seq K W (‵ (Orders κ q γ b o n zs) ∷ ‵ (flft κ q) ∷ ‵ (finally u64 (xv .name) ws) ∷ ‵ (flft κ′ q′) ∷ Γ) (lands C Λ E d u rest p)
+            → Seq K W (‵ (Orders κ q γ b o n zs) ∷ ‵ (flft κ q) ∷ ‵ (finally u64 (xv .name) ws) ∷ ‵ (flft κ′ q′) ∷ Γ) (lands (𝓣 .C) Λ E d u rest p)
         landed u r zs ws e lz lw is-u =
-            subst (λ (z : Val). Seq K W (‵ (Orders κ q γ b o n zs) ∷ ‵ (flft κ q) ∷ ‵ (finally u64 (xv .name) ws) ∷ ‵ (flft κ′ q′) ∷ Γ) (lands C Λ E d z rest p)) (sym (ap only (N′.lowers .val-is r (u ∷ []) is-u)))
+            subst (λ (z : Val). Seq K W (‵ (Orders κ q γ b o n zs) ∷ ‵ (flft κ q) ∷ ‵ (finally u64 (xv .name) ws) ∷ ‵ (flft κ′ q′) ∷ Γ) (lands (𝓣 .C) Λ E d z rest p)) (sym (ap only (N′.lowers .val-is r (u ∷ []) is-u)))
             (next r zs ws (record { answer = e .0; left = e .1; scratch = e .2; as-long = lz; scratch-long = lw; is = subst (Is N.the-row r) (N′.lowers .val-is r (u ∷ []) is-u) is-u }))

@@ -27,7 +27,7 @@ use types.Kit.{Given, Sq, runs, atRet, post, ‵, raw, _⊛_, ⋆, some, later, 
 use types.Part.{whole, sub, look-in}
 use types.Run.{look, init, stop, fld, from, load, of-opd, and-then, no-more, assigns, land, first, skips, branches, exec, enter, params1, pass1, pass0}
 use types.Tokens.{lft-new, lft-end}
-use sound.WpLaws.{FmC, fmOf}
+use sound.WpLaws.{fmOf}
 use denote.RattleType.{owns}
 use denote.Laws.{Is, shows}
 use denote.Plain.{uint-makes, nothing-lawful}
@@ -160,9 +160,6 @@ module _ {M : Type 1} (𝓤 : URA M) (H : Heap 𝓤) (A : Atoms 𝓤) (W : Given
       nothing ! $ owned ! usize (Is usize) (uint-makes 𝓤 H A W w64) held _ (refl, held-ok) $ fjoin ! $ move ! (2 ∷ 0 ∷ []) $ fjoin ! $ move ! (1 ∷ 0 ∷ []) $ join ! $ frame ! $ done !
 
   module _ (𝓣 : Tables 𝓤 H) (known-price : Triple 𝓤 (𝓣 .C #price-and-volumes) (Price 𝓤 H A mem run)) (known-is-refused : Triple 𝓤 (𝓣 .C #is-refused) (IsRefused 𝓤 H A mem run)) (known-clear-from : Triple 𝓤 (𝓣 .C #clear-from) (ClearFrom 𝓤 H A mem run)) where
-    fm : FmC 𝓤 H (W .laws) (𝓣 .C)
-    fm = fmOf 𝓤 H (W .laws) 𝓣
-
     module _ (l₀ l₁ l₂ l₃ l₄ l₅ l₆ l₇ l₈ l₉ l₁₀ l₁₁ l₁₂ l₁₃ : ℕ) where
       abbrev E : Env 𝓤 H
       E = (N′.mir, l₀) ∷ (ordersTy, l₁) ∷ (tyInt w64, l₂) ∷ (tyInt w32, l₃) ∷ (volumesTy 1, l₄) ∷ (N′.mir, l₅) ∷ (sharedRefTy, l₆) ∷ (sharedTy, l₇) ∷ (numberRefTy, l₈) ∷ (numbersTy, l₉) ∷ (tyBool, l₁₀) ∷ (tyUnit, l₁₁) ∷ (orderRefTy, l₁₂) ∷ (lentTy, l₁₃) ∷ []
@@ -177,7 +174,7 @@ module _ {M : Type 1} (𝓤 : URA M) (H : Heap 𝓤) (A : Atoms 𝓤) (W : Given
           rewrite ! 0 (λ (m : ℕ). ‵ (First ν δ m)) (length-take-le held os within) refl $
           move ! (0 ∷ 2 ∷ 3 ∷ 4 ∷ []) $ group ! 4 $ use1 W (raw (Price 𝓤 H A mem run .pre (to-price ν δ))) (goes-price ν δ) $
           -- [what `price_and_volumes` asks; what the orders' holder keeps; the locals]
-          calls-at ! fm (Price 𝓤 H A mem run) known-price (to-price ν δ) (and-then ! (load ! (from ! (stop !)) (look ! 9 refl)) (and-then ! (load ! (from ! (stop !)) (look ! 5 refl)) (and-then ! (load ! (from ! (stop !)) (look ! 11 refl)) (no-more !)))) (λ u.
+          calls-at ! (fmOf 𝓤 H (W .laws) 𝓣) (Price 𝓤 H A mem run) known-price (to-price ν δ) (and-then ! (load ! (from ! (stop !)) (look ! 9 refl)) (and-then ! (load ! (from ! (stop !)) (look ! 5 refl)) (and-then ! (load ! (from ! (stop !)) (look ! 11 refl)) (no-more !)))) (λ u.
           use1 W (later (some (λ (r : AuctionAnswer). ((‵ (flft (ν ∷ []) fullShare) ⊛ ‵ (flft κ₁ q₁) ⊛ ‵ ftrue) ⊛ ‵ (N.the-row .own r (u ∷ []))) ⊛ raw (ensured 𝓤 H A price.ended (price.clauses 𝓤 H A mem run) (ν ∷ [], (κ₁, tt)) (lent δ) tt r)))) (id⊢ 𝓤 _) $ await ! tt $ pick ! (λ r.
           split ! $ move ! (1 ∷ []) $ use1 W (some (λ (ws : Lasts price.ended (ν ∷ [], (κ₁, tt)) (lent δ)). ‵ (lasts price.ended (ν ∷ [], (κ₁, tt)) (lent δ) ws) ⊛ raw (fact 𝓤 (Priced ν δ r ws)))) (id⊢ 𝓤 _) $ pick ! (λ ws.
           split ! $ move ! (1 ∷ []) $ heard ! (Priced ν δ r ws) (λ e. fsplit ! $ drop ! $ fsplit ! $ drop ! $ fsplit ! $ fsplit ! $ move ! (1 ∷ []) $ feqL ! (λ lw. move ! (1 ∷ []) $ drop ! $
@@ -203,7 +200,7 @@ module _ {M : Type 1} (𝓤 : URA M) (H : Heap 𝓤) (A : Atoms 𝓤) (W : Given
           lends-on ! refl (look-in ! 5 (sub ! 0 refl (whole !))) (init ! 16 refl (tt, tt)) (look ! 16 refl) (load ! (from ! (fld ! refl (stop !))) (look-in ! 5 (sub ! 1 refl (whole !)))) (init ! 17 refl (tt, (tt, (record { fits = room₀ .0 }, tt)))) $
           use2 W (raw (ClearFrom 𝓤 H A mem run .pre to-clear-from)) goes-clear-from $
           -- [what `clear_from` asks; how the volumes end; their token; the locals]
-          calls-at ! fm (ClearFrom 𝓤 H A mem run) known-clear-from to-clear-from (and-then ! (load ! (from ! (stop !)) (look ! 16 refl)) (and-then ! (load ! (from ! (stop !)) (look ! 5 refl)) (no-more !))) (λ u′.
+          calls-at ! (fmOf 𝓤 H (W .laws) 𝓣) (ClearFrom 𝓤 H A mem run) known-clear-from to-clear-from (and-then ! (load ! (from ! (stop !)) (look ! 16 refl)) (and-then ! (load ! (from ! (stop !)) (look ! 5 refl)) (no-more !))) (λ u′.
           use1 W (later (some (λ (r′ : Unit {0}). ((‵ (flft κ₀ q₀) ⊛ ‵ ftrue) ⊛ ‵ (unit .own r′ (u′ ∷ []))) ⊛ raw (ensured 𝓤 H A clear-from.ended (clear-from.clauses 𝓤 H A mem run) (κ₀, tt) ((ref b₀ o₀ γ₀ os), (held, tt)) tt r′)))) (id⊢ 𝓤 _) $ await ! tt $ pick ! (λ r′.
           split ! $ move ! (1 ∷ []) $ use1 W (some (λ (zs : Lasts clear-from.ended (κ₀, tt) ((ref b₀ o₀ γ₀ os), (held, tt))). ‵ (lasts clear-from.ended (κ₀, tt) ((ref b₀ o₀ γ₀ os), (held, tt)) zs) ⊛ raw (fact 𝓤 (zs .0 ≡ zeroFrom held os)))) (id⊢ 𝓤 _) $ pick ! (λ zs.
           split ! $ move ! (1 ∷ []) $ heard ! (zs .0 ≡ zeroFrom held os) (λ e′. fsplit ! $ fsplit ! $ move ! (1 ∷ []) $ feqL ! (λ lz.

@@ -27,7 +27,6 @@ use types.Kit.{Given, Item, Sq, runs, prop, anyQ, atRet, post, ‵, _⊛_, ⋆, 
 use types.Part.{whole, sub, look-in}
 use types.Run.{look, look-raw, init, store, forget, stop, fld, hop, from, load, lit, false-lit, of-opd, bin, and-then, no-more, assigns, assigns-last, land, first, skips, jumps, branches, again, exec, enter, params1, pass1, pass0}
 use types.Share.{arr-parts}
-use sound.WpLaws.{FmC, fmOf}
 use denote.RattleType.{owns}
 use denote.Shadow.{pureI}
 use denote.Laws.{Is, shows}
@@ -106,9 +105,6 @@ module _ {M : Type 1} (𝓤 : URA M) (H : Heap 𝓤) (A : Atoms 𝓤) (W : Given
       owned ! bool (Is bool) (bool-makes 𝓤 H A W) r _ refl $ done !
 
   module _ (𝓣 : Tables 𝓤 H) (known-bad-order : Triple 𝓤 (𝓣 .C #bad-order) (BadOrder 𝓤 H A mem run)) where
-    fm : FmC 𝓤 H (W .laws) (𝓣 .C)
-    fm = fmOf 𝓤 H (W .laws) 𝓣
-
     module _ (l₀ l₁ l₂ l₃ l₄ l₅ l₆ l₇ : ℕ) where
       abbrev E : Env 𝓤 H
       E = (tyBool, l₀) ∷ (ordersTy, l₁) ∷ (tyBool, l₂) ∷ (tyInt w64, l₃) ∷ (tyInt w64, l₄) ∷ (tyBool, l₅) ∷ (tyPtr, l₆) ∷ (O′.mir, l₇) ∷ []
@@ -154,7 +150,7 @@ module _ {M : Type 1} (𝓤 : URA M) (H : Heap 𝓤) (A : Atoms 𝓤) (W : Given
               -- [orders[i]; what it owns; the others; the locals]
               assigns ! (of-opd ! (load ! (from ! (hop ! (look ! 9 refl) (stop !))) (look-raw ! 0 refl))) (from ! (stop !)) (init ! 10 refl (order-typed x is)) $
               elem-back ! O.the-row q os i zeroOrder (O′.lowered x ∷ []) b o small $
-              calls-bad-order 𝓤 H A W mem run ! fm known-bad-order x is (and-then ! (load ! (from ! (stop !)) (look ! 8 refl)) (no-more !)) $
+              calls-bad-order 𝓤 H A W mem run ! 𝓣 known-bad-order x is (and-then ! (load ! (from ! (stop !)) (look ! 8 refl)) (no-more !)) $
               land ! (from ! (stop !)) (store ! 6 refl (tt, tt)) $
               assigns ! (bin ! (load ! (from ! (stop !)) (look ! 3 refl)) (load ! (from ! (stop !)) (look ! 6 refl)) tt) (from ! (stop !)) (store ! 3 refl (tt, tt)) $
               assigns-last ! (bin ! (load ! (from ! (stop !)) (look ! 4 refl)) (lit ! tt) (record { fits = step })) (from ! (stop !)) (store ! 4 refl (tt, record { fits = step })) $

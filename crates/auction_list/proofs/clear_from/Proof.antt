@@ -26,7 +26,6 @@ use types.Kit as Kit
 use types.Kit.{Given, Item, Sq, runs, prop, anyQ, atRet, post, ‵, _⊛_, ⋆, _$_, _∵_, !, qed, by, move, keep, drop, use1, split, join, fsplit, fjoin, feqI, suffices, frame, done}
 use types.Part.{whole, sub, look-in}
 use types.Run.{look, init, store, store-raw, forget, stop, fld, hop, from, load, lit, unit-lit, of-opd, bin, no-more, assigns, assigns-last, land, first, skips, jumps, branches, again, exec, enter, params1, pass1, pass0}
-use sound.WpLaws.{FmC, fmOf}
 use denote.RattleType.{owns}
 use denote.Laws.{Is, shows}
 use denote.Memory.{pointee}
@@ -104,9 +103,6 @@ module _ {M : Type 1} (𝓤 : URA M) (H : Heap 𝓤) (A : Atoms 𝓤) (W : Given
       feqI ! (List Val) (vunit ∷ []) (vunit ∷ []) refl $ move ! (1 ∷ 0 ∷ []) $ done !
 
   module _ (𝓣 : Tables 𝓤 H) (known-zero-order : Triple 𝓤 (𝓣 .C #zero-order) (ZeroOrder 𝓤 H A mem run)) where
-    fm : FmC 𝓤 H (W .laws) (𝓣 .C)
-    fm = fmOf 𝓤 H (W .laws) 𝓣
-
     module _ (l₀ l₁ l₂ l₃ l₄ l₅ l₆ l₇ : ℕ) where
       abbrev E : Env 𝓤 H
       E = (tyUnit, l₀) ∷ (ordersTy, l₁) ∷ (tyInt w64, l₂) ∷ (O′.mir, l₃) ∷ (tyInt w64, l₄) ∷ (tyInt w64, l₅) ∷ (tyBool, l₆) ∷ (tyPtr, l₇) ∷ []
@@ -173,7 +169,7 @@ module _ {M : Type 1} (𝓤 : URA M) (H : Heap 𝓤) (A : Atoms 𝓤) (W : Given
       -- from the first statement on: local k stands at 3 + k
       starts : Sq W (Owned os (Locals (empty O′.mir l₃) (empty (tyInt w64) l₄) (dies 𝓤 H E))) (runs (𝓣 .C) (𝓣 .Λ) E body.t-1 (atRet E Post))
       starts =
-          calls-zero-order 𝓤 H A W mem run ! fm known-zero-order (no-more !) (λ zero-is.
+          calls-zero-order 𝓤 H A W mem run ! 𝓣 known-zero-order (no-more !) (λ zero-is.
           land ! (from ! (stop !)) (init ! 6 refl (order-typed zeroOrder zero-is)) $
           assigns ! (of-opd ! (load ! (from ! (stop !)) (look ! 5 refl))) (from ! (stop !)) (init ! 7 refl (tt, record { fits = ok })) $
           opens-slice ! tt O.the-row os b o $

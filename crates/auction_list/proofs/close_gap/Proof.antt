@@ -23,7 +23,6 @@ use types.Kit as Kit
 use types.Kit.{Given, Item, Sq, runs, prop, anyQ, atRet, post, ‵, _⊛_, ⋆, _$_, _∵_, !, qed, by, move, keep, drop, split, join, fsplit, fjoin, suffices, frame, done}
 use types.Part.{whole, sub, look-in}
 use types.Run.{look, look-raw, init, store, store-raw, forget, stop, hop, from, load, lit, of-opd, bin, no-more, assigns, assigns-last, land, first, skips, jumps, branches, again, exec, enter, params1, pass1, pass0}
-use sound.WpLaws.{FmC, fmOf}
 use denote.RattleType.{owns}
 use denote.Shadow.{pureI}
 use denote.Laws.{Is, shows}
@@ -104,9 +103,6 @@ module _ {M : Type 1} (𝓤 : URA M) (H : Heap 𝓤) (A : Atoms 𝓤) (W : Given
       owned ! O.the-row (Is O.the-row) (LL.makes O.the-type O′.the-plain 𝓤 H A) r _ is $ done !
 
   module _ (𝓣 : Tables 𝓤 H) (known-zero-order : Triple 𝓤 (𝓣 .C #zero-order) (ZeroOrder 𝓤 H A mem run)) where
-    fm : FmC 𝓤 H (W .laws) (𝓣 .C)
-    fm = fmOf 𝓤 H (W .laws) 𝓣
-
     module _ (l₀ l₁ l₂ l₃ l₄ l₅ l₆ l₇ l₈ l₉ l₁₀ l₁₁ : ℕ) where
       abbrev E : Env 𝓤 H
       E = (O′.mir, l₀) ∷ (ordersTy, l₁) ∷ (tyInt w64, l₂) ∷ (tyInt w64, l₃) ∷ (O′.mir, l₄) ∷ (tyInt w64, l₅) ∷ (O′.mir, l₆) ∷ (tyBool, l₇)
@@ -181,7 +177,7 @@ module _ {M : Type 1} (𝓤 : URA M) (H : Heap 𝓤) (A : Atoms 𝓤) (W : Given
       -- from the first statement on
       starts : Sq W (Owned xs (Locals (empty O′.mir l₄) (empty (tyInt w64) l₅) (dies 𝓤 H E))) (runs (𝓣 .C) (𝓣 .Λ) E body.t-1 (atRet E Post))
       starts =
-          calls-zero-order 𝓤 H A W mem run ! fm known-zero-order (no-more !) (λ zero-is.
+          calls-zero-order 𝓤 H A W mem run ! 𝓣 known-zero-order (no-more !) (λ zero-is.
           land ! (from ! (stop !)) (init ! 7 refl (order-typed zeroOrder zero-is)) $
           assigns ! (of-opd ! (load ! (from ! (stop !)) (look ! 6 refl))) (from ! (stop !)) (init ! 8 refl (tt, record { fits = count-is-small })) $
           opens-slice ! tt O.the-row xs b o $

@@ -28,7 +28,7 @@ use types.Kit.{Given, Item, Seq, Sq, runs, prop, anyQ, atRet, post, ‵, raw, _�
 use types.Part.{whole, sub, look-in, agg}
 use types.Run.{look, look-raw, init, store, forget, stop, fld, hop, from, load, lit, true-lit, false-lit, of-opd, bin, un, and-then, no-more, assigns, assigns-last, land, first, skips, jumps, branches, again, exec, enter, params1, pass1, pass0}
 use types.Share.{arr-parts}
-use sound.WpLaws.{FmC, fmOf}
+use sound.WpLaws.{fmOf}
 use denote.RattleType.{owns}
 use denote.Shadow.{pureI}
 use denote.Laws.{Is, shows}
@@ -70,6 +70,7 @@ use Rattle.auction_definitions.proofs.AuctionAnswer.Laws as N′
 use Rattle.auction_definitions.proofs.AuctionOrder as O
 use Rattle.auction_definitions.proofs.AuctionOrder.Laws as O′
 use Rattle.auction_definitions.proofs.Line.Laws as L′
+use Rattle.auction_lines.proofs.lists_fit as lists-fit
 use Rattle.auction_lines.proofs.lists_fit.Symbol.{name as #lists-fit}
 use Rattle.auction_lines.proofs.lists_fit.Met as lists-fit-thm
 use Rattle.auction_lines.proofs.empty_line.Symbol.{name as #empty-line}
@@ -87,7 +88,7 @@ use Rattle.auction_lines.proofs.answer_of.Met as answer-of-thm
 use Rattle.auction.proofs.volumes.clear_from as clear-from
 use Rattle.auction.proofs.volumes.clear_from.Symbol.{name as #clear-from}
 use Rattle.auction.proofs.volumes.clear_from.Met as clear-from-thm
-use Rattle.auction.proofs.Calls.{ListsFit, EmptyLine, BadAtFirst, WithOrder, VolumeOf, Better, AnswerOf, calls-lists-fit, calls-empty-line, calls-bad-at-first, calls-with-order, calls-volume-of, calls-better, calls-answer-of}
+use Rattle.auction.proofs.Calls.{ListsFit, EmptyLine, BadAtFirst, WithOrder, VolumeOf, Better, AnswerOf, calls-fits, calls-empty-line, calls-bad-at-first, calls-with-order, calls-volume-of, calls-better, calls-answer-of}
 use Rattle.walks.proofs.Bodies.{past}
 use Rattle.auction_lines.proofs.Typed.{order-typed}
 use Rattle.auction.proofs.States.{Places, Passed, holds, fails, holds-twice, line-typed, answer-typed}
@@ -187,9 +188,6 @@ module _ {M : Type 1} (𝓤 : URA M) (H : Heap 𝓤) (A : Atoms 𝓤) (W : Given
       (known-better : Triple 𝓤 (𝓣 .C #better) (Better 𝓤 H A mem run))
       (known-clear-from : Triple 𝓤 (𝓣 .C #clear-from) (ClearFrom 𝓤 H A mem run))
       (known-answer-of : Triple 𝓤 (𝓣 .C #answer-of) (AnswerOf 𝓤 H A mem run)) where
-    fm : FmC 𝓤 H (W .laws) (𝓣 .C)
-    fm = fmOf 𝓤 H (W .laws) 𝓣
-
     module _ (l₀ l₁ l₂ l₃ l₄ l₅ l₆ l₇ l₈ l₉ l₁₀ l₁₁ l₁₂ l₁₃ l₁₄ l₁₅ l₁₆ l₁₇ l₁₈ l₁₉ l₂₀ l₂₁ l₂₂ l₂₃ l₂₄ l₂₅ l₂₆ l₂₇ l₂₈ : ℕ) where
       abbrev E : Env 𝓤 H
       E = (N′.mir, l₀) ∷ (ordersTy, l₁) ∷ (tyInt w32, l₂) ∷ (volumesTy, l₃) ∷ (tyInt w64, l₄) ∷ (L′.mir, l₅) ∷ (tyBool, l₆) ∷ (tyInt w64, l₇) ∷ (L′.mir, l₈)
@@ -382,7 +380,7 @@ module _ {M : Type 1} (𝓤 : URA M) (H : Heap 𝓤) (A : Atoms 𝓤) (W : Given
           lends-on ! refl (look-in ! 9 (sub ! 0 refl (whole !))) (init ! 33 refl (tt, tt)) (look ! 33 refl) (load ! (from ! (fld ! refl (stop !))) (look-in ! 9 (sub ! 1 refl (whole !)))) (init ! 34 refl (tt, (tt, (record { fits = room₁ .0 }, tt)))) $
           move ! (2 ∷ 3 ∷ 4 ∷ []) $ use3 W (raw (ClearFrom 𝓤 H A mem run .pre (to-clear-from vs))) (goes-clear-from vs (t .lists .long)) $
           -- [what `clear_from` asks; the fractured borrow; its res; the orders' token; the locals]
-          calls-at ! fm (ClearFrom 𝓤 H A mem run) known-clear-from (to-clear-from vs) (and-then ! (load ! (from ! (stop !)) (look ! 32 refl)) (and-then ! (load ! (from ! (stop !)) (look ! 8 refl)) (no-more !))) (λ u.
+          calls-at ! (fmOf 𝓤 H (W .laws) 𝓣) (ClearFrom 𝓤 H A mem run) known-clear-from (to-clear-from vs) (and-then ! (load ! (from ! (stop !)) (look ! 32 refl)) (and-then ! (load ! (from ! (stop !)) (look ! 8 refl)) (no-more !))) (λ u.
           use1 W (later (some (λ (r : Unit {0}). ((‵ (flft κ₁ q₁) ⊛ ‵ ftrue) ⊛ ‵ (unit .own r (u ∷ []))) ⊛ raw (ensured 𝓤 H A clear-from.ended (clear-from.clauses 𝓤 H A mem run) (κ₁, tt) (lent vs) tt r)))) (id⊢ 𝓤 _) $ await ! tt $ pick ! (λ r.
           split ! $ move ! (1 ∷ []) $ use1 W (some (λ (zs : Lasts clear-from.ended (κ₁, tt) (lent vs)). ‵ (lasts clear-from.ended (κ₁, tt) (lent vs) zs) ⊛ raw (fact 𝓤 (zs .0 ≡ clearedFrom n vs)))) (id⊢ 𝓤 _) $ pick ! (λ zs.
           split ! $ move ! (1 ∷ []) $ heard ! (zs .0 ≡ clearedFrom n vs) (λ e. fsplit ! $ fsplit ! $ move ! (1 ∷ []) $ feqL ! (λ l.
@@ -401,7 +399,7 @@ module _ {M : Type 1} (𝓤 : URA M) (H : Heap 𝓤) (A : Atoms 𝓤) (W : Given
           assigns ! (of-opd ! (load ! (from ! (fld ! refl (stop !))) (look-in ! 7 (sub ! 1 refl (whole !))))) (from ! (stop !)) (init ! 10 refl (tt, record { fits = room₀ .0 })) $
           assigns ! (of-opd ! (load ! (from ! (fld ! refl (stop !))) (look-in ! 9 (sub ! 1 refl (whole !))))) (from ! (stop !)) (init ! 18 refl (tt, record { fits = room₁ .0 })) $
           assigns ! (of-opd ! (load ! (from ! (fld ! refl (stop !))) (look-in ! 9 (sub ! 1 refl (whole !))))) (from ! (stop !)) (init ! 19 refl (tt, record { fits = room₁ .0 })) $
-          calls-lists-fit 𝓤 H A W mem run n (length vs₀) (length vs₀) ! 𝓣 known-lists-fit (room₀ .0) (room₁ .0) (room₁ .0) (and-then ! (load ! (from ! (stop !)) (look ! 10 refl)) (and-then ! (load ! (from ! (stop !)) (look ! 18 refl)) (and-then ! (load ! (from ! (stop !)) (look ! 19 refl)) (no-more !)))) (λ _.
+          calls-fits 𝓤 H A W mem run listsFit n (length vs₀) (length vs₀) ! 𝓣 (lists-fit.clauses 𝓤 H A mem run) known-lists-fit tt (id⊢ 𝓤 _) (λ r zs. id⊢ 𝓤 _) (room₀ .0) (room₁ .0) (room₁ .0) (and-then ! (load ! (from ! (stop !)) (look ! 10 refl)) (and-then ! (load ! (from ! (stop !)) (look ! 18 refl)) (and-then ! (load ! (from ! (stop !)) (look ! 19 refl)) (no-more !)))) (λ _.
           land ! (from ! (stop !)) (init ! 17 refl (tt, tt)) $
           assigns ! (un ! (load ! (from ! (stop !)) (look ! 17 refl)) tt) (from ! (stop !)) (init ! 20 refl (tt, tt)) $
           first ! $ branches ! (load ! (from ! (stop !)) (look ! 20 refl))
