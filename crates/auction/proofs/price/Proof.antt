@@ -22,7 +22,7 @@ use base.Logic.{id⊢, SProp, ent, emp, via, fst∗}
 use base.Fml.{GName, Lft, Share, ftrue, flft, fobs, fauth, fres, fbor, fobor, fshr-bor}
 use prog.Memory.{Memory}
 use prog.Routine.{Routine}
-use prog.Wp.{Heap, Env, Wp, WpFn, Tables, next, exits as exitsᴼ, afterSeq, afterTurn, atReturn}
+use prog.Wp.{Heap, Env, Wp, WpFn, Tables, next, exits as exitsᴼ, afterSeq, afterTurn}
 use ghost.Atoms.{Atoms}
 use contract.Monad.{Fun}
 use contract.Running.{givenOf}
@@ -50,7 +50,7 @@ use denote.Triple.Walked.{says, walkOf, ends-at}
 use Rattle.walks.proofs.Refs.{ref}
 use Rattle.walks.proofs.Element.{reaches}
 use Rattle.walks.proofs.Locals.{behind, dies, empty, full, makes, returns-from, rooms}
-use Rattle.walks.proofs.Whiles.{After, Fewer, whiles}
+use Rattle.walks.proofs.Whiles.{After, Fewer, Then, whiles}
 use Rattle.walks.proofs.Parameters.{Of, kept-slice, number, shared-slice, stayed}
 use Rattle.walks.proofs.Proved.{walk-proves}
 use Rattle.auction_definitions.specs.declared.AuctionAnswer.{AuctionAnswer}
@@ -354,7 +354,7 @@ module _ {M : Type 1} (𝓤 : URA M) (H : Heap 𝓤) (A : Atoms 𝓤) (W : Given
           move ! (8 ∷ 10 ∷ []) $ looks-slice ! tt O.the-row (Is O.the-row) (shows 𝓤 H A O.the-row) (λ x. O′.lowered x ∷ []) (O′.lowers .val-is) (LL.copy O.the-type O′.the-copy 𝓤 H A W) os b₀ o₀ (λ q.
           -- [the orders; …; …; the buyers' list; …; …; …; the sellers'; …; …; …; …; the locals; …]
           move ! (0 ∷ 3 ∷ 7 ∷ 12 ∷ 13 ∷ 14 ∷ 15 ∷ 16 ∷ 17 ∷ 18 ∷ 19 ∷ 20 ∷ 21 ∷ 22 ∷ 23 ∷ 24 ∷ 25 ∷ 26 ∷ 27 ∷ 28 ∷ 29 ∷ 30 ∷ 31 ∷ 32 ∷ 33 ∷ 34 ∷ 35 ∷ 36 ∷ 37 ∷ 38 ∷ []) $ first ! $
-          places-pass q (Open q) (sizes n (length bs₀) (length ss₀) (holds-twice fit fits) .0) (holds-twice fit fits) (anyQ (afterSeq 𝓤 H (Wp 𝓤 H (𝓣 .C) (𝓣 .Λ) E body.t-11 (atReturn 𝓤 H E Post)) (atReturn 𝓤 H E Post)))
+          places-pass q (Open q) (sizes n (length bs₀) (length ss₀) (holds-twice fit fits) .0) (holds-twice fit fits) (Then 𝓤 H (𝓣 .C) (𝓣 .Λ) E body.t-11 Post)
           (λ bad t promise. exec ! (𝓣 .C) (𝓣 .Λ) E body.t-11 (atRet E Post) $ tail q bad t promise)
           (record { i = 0; best = emptyLine 0; at = candidates-start os reference; lists = (filled-start os (λ l. l .buyers) bs₀, filled-start os (λ l. l .sellers) ss₀); best-is = best-is })))))
 

@@ -18,12 +18,12 @@ use base.Logic.{SProp, ent, emp, via, fst∗}
 use base.Fml.{GName, Lft, Share, ftrue, flft, fres, fobor, fshr-bor}
 use prog.Memory.{Memory}
 use prog.Routine.{Routine}
-use prog.Wp.{Heap, Env, Wp, WpFn, Tables, next, afterSeq, afterTurn, atReturn}
+use prog.Wp.{Heap, Env, WpFn, Tables, next, afterTurn}
 use ghost.Atoms.{Atoms}
 use contract.Monad.{Fun}
 use contract.Running.{givenOf}
 use types.Kit as Kit
-use types.Kit.{Given, Item, Sq, runs, prop, anyQ, atRet, post, ‵, _⊛_, ⋆, _$_, _∵_, !, qed, by, move, keep, drop, split, join, fsplit, fjoin, suffices, frame, done}
+use types.Kit.{Given, Item, Sq, runs, prop, atRet, post, ‵, _⊛_, ⋆, _$_, _∵_, !, qed, by, move, keep, drop, split, join, fsplit, fjoin, suffices, frame, done}
 use types.Part.{whole, sub, look-in}
 use types.Run.{look, look-raw, init, store, forget, stop, fld, hop, from, load, lit, false-lit, of-opd, bin, and-then, no-more, assigns, assigns-last, land, first, skips, jumps, branches, again, exec, enter, params1, pass1, pass0}
 use types.Share.{arr-parts}
@@ -43,7 +43,7 @@ use denote.Triple.Entry.{Args, Vals, onEntry}
 use denote.Triple.Walked.{says, walkOf, ends-at}
 use Rattle.walks.proofs.Refs.{ref}
 use Rattle.walks.proofs.Element.{reaches}
-use Rattle.walks.proofs.Whiles.{After, Fewer, whiles}
+use Rattle.walks.proofs.Whiles.{After, Fewer, Then, whiles}
 use Rattle.walks.proofs.Locals.{dies, empty, full, makes, returns-from}
 use Rattle.walks.proofs.Parameters.{Of, shared-slice, stayed}
 use Rattle.walks.proofs.Proved.{walk-proves}
@@ -174,7 +174,7 @@ module _ {M : Type 1} (𝓤 : URA M) (H : Heap 𝓤) (A : Atoms 𝓤) (W : Given
           move ! (0 ∷ 2 ∷ []) $ looks-slice ! tt O.the-row (Is O.the-row) (shows 𝓤 H A O.the-row) (λ y. O′.lowered y ∷ []) (O′.lowers .val-is) (LL.copy O.the-type O′.the-copy 𝓤 H A W) os b o (λ q.
           -- [the orders; the open borrow; the fractured borrow; its res; the locals; …]
           move ! (0 ∷ 4 ∷ 5 ∷ 6 ∷ 7 ∷ 8 ∷ 9 ∷ 10 ∷ 11 ∷ []) $ first ! $
-          passes q (Open q) (anyQ (afterSeq 𝓤 H (Wp 𝓤 H (𝓣 .C) (𝓣 .Λ) E body.t-4 (atReturn 𝓤 H E Post)) (atReturn 𝓤 H E Post)))
+          passes q (Open q) (Then 𝓤 H (𝓣 .C) (𝓣 .Λ) E body.t-4 Post)
           (λ t promise. exec ! (𝓣 .C) (𝓣 .Λ) E body.t-4 (atRet E Post) $
           -- [the orders; the locals; the open borrow; the fractured borrow; its res; …]
           move ! (0 ∷ 9 ∷ []) $ shuts-slice ! tt O.the-row q os b o $ move ! (9 ∷ 10 ∷ []) $ leaves t promise)

@@ -18,12 +18,12 @@ use base.Logic.{SProp, ent, emp, via, fst∗}
 use base.Fml.{GName, Lft, Share, ftrue, flft, fobs, fauth, fres, fbor, fobor}
 use prog.Memory.{Memory}
 use prog.Routine.{Routine}
-use prog.Wp.{Heap, Env, Wp, WpFn, Tables, next, afterSeq, afterTurn, atReturn}
+use prog.Wp.{Heap, Env, WpFn, Tables, next, afterTurn}
 use ghost.Atoms.{Atoms}
 use contract.Monad.{Fun}
 use contract.Running.{givenOf}
 use types.Kit as Kit
-use types.Kit.{Given, Item, Sq, runs, prop, anyQ, atRet, post, ‵, _⊛_, ⋆, _$_, _∵_, !, qed, by, move, keep, drop, use1, split, join, fsplit, fjoin, feqI, suffices, frame, done}
+use types.Kit.{Given, Item, Sq, runs, prop, atRet, post, ‵, _⊛_, ⋆, _$_, _∵_, !, qed, by, move, keep, drop, use1, split, join, fsplit, fjoin, feqI, suffices, frame, done}
 use types.Part.{whole, sub, look-in}
 use types.Run.{look, init, store, store-raw, forget, stop, fld, hop, from, load, lit, unit-lit, of-opd, bin, no-more, assigns, assigns-last, land, first, skips, jumps, branches, again, exec, enter, params1, pass1, pass0}
 use denote.RattleType.{owns}
@@ -41,7 +41,7 @@ use denote.Triple.Entry.{Args, Vals, onEntry}
 use denote.Triple.Walked.{says, walkOf, ends-at}
 use Rattle.walks.proofs.Refs.{ref}
 use Rattle.walks.proofs.Element.{reaches}
-use Rattle.walks.proofs.Whiles.{After, Fewer, whiles}
+use Rattle.walks.proofs.Whiles.{After, Fewer, Then, whiles}
 use Rattle.walks.proofs.Locals.{dies, empty, full, makes, returns-from}
 use Rattle.walks.proofs.Parameters.{Of, gave-slice, number, stayed}
 use Rattle.walks.proofs.Proved.{walk-proves}
@@ -175,7 +175,7 @@ module _ {M : Type 1} (𝓤 : URA M) (H : Heap 𝓤) (A : Atoms 𝓤) (W : Given
           opens-slice ! tt O.the-row os b o $
           -- [the orders; the open borrow; its obs; its auth; the locals; …]
           move ! (0 ∷ 4 ∷ 5 ∷ 6 ∷ 7 ∷ 8 ∷ 9 ∷ 10 ∷ 11 ∷ []) $ first ! $
-          passes zero-is Open (anyQ (afterSeq 𝓤 H (Wp 𝓤 H (𝓣 .C) (𝓣 .Λ) E body.t-4 (atReturn 𝓤 H E Post)) (atReturn 𝓤 H E Post)))
+          passes zero-is Open (Then 𝓤 H (𝓣 .C) (𝓣 .Λ) E body.t-4 Post)
           (λ t promise. exec ! (𝓣 .C) (𝓣 .Λ) E body.t-4 (atRet E Post) $
           -- [the orders; the locals; the open borrow; its obs; its auth; …]
           move ! (0 ∷ 9 ∷ 10 ∷ 11 ∷ []) $ closes-slice ! tt O.the-row os (t .list) (t .at .long) b o $ leaves t promise)

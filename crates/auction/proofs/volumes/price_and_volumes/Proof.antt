@@ -53,7 +53,7 @@ use Rattle.walks.proofs.Cells.{emptied}
 use Rattle.walks.proofs.Element.{reaches}
 use Rattle.walks.proofs.LentOn.{lends-on}
 use Rattle.walks.proofs.Locals.{behind, dies, empty, full, makes, returns-from, rooms}
-use Rattle.walks.proofs.Whiles.{After, Fewer, whiles}
+use Rattle.walks.proofs.Whiles.{After, Fewer, Then, whiles}
 use Rattle.walks.proofs.Parameters.{Of, gave-slice, number, shared-slice, stayed}
 use Rattle.walks.proofs.Proved.{walk-proves}
 use Rattle.auction_definitions.specs.declared.AuctionAnswer.{AuctionAnswer}
@@ -418,7 +418,7 @@ module _ {M : Type 1} (𝓤 : URA M) (H : Heap 𝓤) (A : Atoms 𝓤) (W : Given
           move ! (4 ∷ 6 ∷ []) $ looks-slice ! tt O.the-row (Is O.the-row) (shows 𝓤 H A O.the-row) (λ x. O′.lowered x ∷ []) (O′.lowers .val-is) (LL.copy O.the-type O′.the-copy 𝓤 H A W) os b₀ o₀ (λ q.
           -- [the orders; …; …; the volumes; …; …; …; …; the locals; …]
           move ! (0 ∷ 3 ∷ 8 ∷ 9 ∷ 10 ∷ 11 ∷ 12 ∷ 13 ∷ 14 ∷ 15 ∷ 16 ∷ 17 ∷ 18 ∷ 19 ∷ 20 ∷ 21 ∷ 22 ∷ 23 ∷ 24 ∷ 25 ∷ 26 ∷ 27 ∷ 28 ∷ 29 ∷ 30 ∷ 31 ∷ 32 ∷ 33 ∷ 34 ∷ 35 ∷ 36 ∷ []) $ first ! $
-          places-pass q (Open q) (sizes n (length vs₀) (length vs₀) (holds-twice fit fits) .0) (holds-twice fit fits) (anyQ (afterSeq 𝓤 H (Wp 𝓤 H (𝓣 .C) (𝓣 .Λ) E body.t-11 (atReturn 𝓤 H E Post)) (atReturn 𝓤 H E Post)))
+          places-pass q (Open q) (sizes n (length vs₀) (length vs₀) (holds-twice fit fits) .0) (holds-twice fit fits) (Then 𝓤 H (𝓣 .C) (𝓣 .Λ) E body.t-11 Post)
           (λ t promise. exec ! (𝓣 .C) (𝓣 .Λ) E body.t-11 (atRet E Post) $ closes q false t (tail t promise))
           (λ t promise. exec ! (𝓣 .C) (𝓣 .Λ) E body.t-11 (atRet E Post) $ closes q true t (refuses t promise))
           (record { i = 0; best = emptyLine 0; at = candidates-start os reference; lists = filled-start os volumeOf vs₀; best-is = best-is })))))
