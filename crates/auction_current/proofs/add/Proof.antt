@@ -23,7 +23,7 @@ use contract.Monad.{Fun, factI}
 use contract.Running.{givenOf}
 use types.Kit.{Given, Item, Sq, runs, atRet, post, ‵, _⊛_, ⋆, _$_, _∵_, !, qed, move, keep, drop, split, fsplit, fsplit3, fltL}
 use types.Part.{whole, sub, look-in, agg}
-use types.Run.{look, init, store, forget, stop, fld, hop, from, load, lit, of-opd, bin, un, and-then, no-more, assigns, land, first, skips, branches, exec, enter, params1, pass1, pass0}
+use types.Run.{look, init, store, forget, stop, fld, hop, from, load, lit, of-opd, bin, and-then, no-more, assigns, land, first, skips, branches, exec, enter, params1, pass1, pass0}
 use denote.RattleType.{owns}
 use denote.Laws.{Is}
 use denote.Builtin.{u32, u64, usize}
@@ -49,8 +49,8 @@ use Rattle.auction_definitions.proofs.AuctionAnswer.Laws as N′
 use Rattle.auction_definitions.proofs.AuctionOrder as O
 use Rattle.auction_definitions.proofs.AuctionOrder.Laws as O′
 use Rattle.auction_lines.proofs.Typed.{order-typed}
-use Rattle.auction.proofs.States.{answer-typed, fails, holds, holds-twice}
-use Rattle.auction.proofs.Calls.{calls-fits}
+use Rattle.auction.proofs.States.{answer-typed, fails, holds}
+use Rattle.auction.proofs.Calls.{asks-fits}
 use Rattle.auction_lines.proofs.add_fits as add-fits
 use Rattle.auction_lines.proofs.add_fits.Symbol.{name as #add-fits}
 use Rattle.auction_lines.proofs.add_fits.Met as add-fits-thm
@@ -162,16 +162,13 @@ module _ {M : Type 1} (𝓤 : URA M) (H : Heap 𝓤) (A : Atoms 𝓤) (W : Given
           assigns ! (of-opd ! (load ! (from ! (hop ! (look ! 10 refl) (stop !))) (look ! 4 refl))) (from ! (stop !)) (init ! 14 refl (tt, record { fits = n-ok })) $
           assigns ! (of-opd ! (load ! (from ! (fld ! refl (stop !))) (look-in ! 9 (sub ! 1 refl (whole !))))) (from ! (stop !)) (init ! 19 refl (tt, record { fits = room₀ .0 })) $
           assigns ! (of-opd ! (load ! (from ! (fld ! refl (stop !))) (look-in ! 13 (sub ! 1 refl (whole !))))) (from ! (stop !)) (init ! 20 refl (tt, record { fits = room₂ .0 })) $
-          calls-fits 𝓤 H A W mem run addFits n (length xs) (length vs) ! 𝓣 (add-fits.clauses 𝓤 H A mem run) known-fits tt (id⊢ 𝓤 _) (λ r zs. id⊢ 𝓤 _) n-ok (room₀ .0) (room₂ .0) (and-then ! (load ! (from ! (stop !)) (look ! 14 refl)) (and-then ! (load ! (from ! (stop !)) (look ! 19 refl)) (and-then ! (load ! (from ! (stop !)) (look ! 20 refl)) (no-more !)))) (λ _.
-          land ! (from ! (stop !)) (init ! 18 refl (tt, tt)) $
-          assigns ! (un ! (load ! (from ! (stop !)) (look ! 18 refl)) tt) (from ! (stop !)) (init ! 21 refl (tt, tt)) $
-          first ! $ branches ! (load ! (from ! (stop !)) (look ! 21 refl))
+          asks-fits 𝓤 H A W mem run addFits n (length xs) (length vs) ! 𝓣 (add-fits.clauses 𝓤 H A mem run) known-fits tt (id⊢ 𝓤 _) (λ r zs. id⊢ 𝓤 _) n-ok (room₀ .0) (room₂ .0) (and-then ! (load ! (from ! (stop !)) (look ! 14 refl)) (and-then ! (load ! (from ! (stop !)) (look ! 19 refl)) (and-then ! (load ! (from ! (stop !)) (look ! 20 refl)) (no-more !)))) (init ! 18 refl (tt, tt)) (look ! 18 refl) (init ! 21 refl (tt, tt)) (look ! 21 refl)
           -- refused 14
           (λ unfit. assigns ! (agg ! (and-then ! (lit ! tt) (and-then ! (lit ! tt) (no-more !)))) (from ! (stop !)) (init ! 8 refl (tt, (record { fits = lit< tt }, (record { fits = lit< tt }, tt)))) $
-          keeps κ₀ κ₁ κ₂ q₀ q₁ q₂ b₀ o₀ γ₀ xs b₁ o₁ γ₁ n b₂ o₂ γ₂ vs 𝓤 H A W ! Post refl (Refused 14) xs n-ok (exits (Refused 14) xs n vs (EL.owes N.the-type N′.the-laws (Refused 14) ((refl, lit< tt), tt)) refl refl (kept-unfit (Add order) reference lent-in (fails (addFits n (length xs) (length vs)) unfit))) refl)
+          keeps κ₀ κ₁ κ₂ q₀ q₁ q₂ b₀ o₀ γ₀ xs b₁ o₁ γ₁ n b₂ o₂ γ₂ vs 𝓤 H A W ! Post refl (Refused 14) xs n-ok (exits (Refused 14) xs n vs (EL.owes N.the-type N′.the-laws (Refused 14) ((refl, lit< tt), tt)) refl refl (kept-unfit (Add order) reference lent-in unfit)) refl)
           -- the order fits
-          (λ fits. skips ! $ exec ! (𝓣 .C) (𝓣 .Λ) E body.t-7 (atRet E Post) $ forget ! 18 refl $ forget ! 19 refl $ forget ! 20 refl $ forget ! 21 refl $
-          puts (holds-twice (addFits n (length xs) (length vs)) fits)))
+          (λ fits. forget ! 18 refl $ forget ! 19 refl $ forget ! 20 refl $ forget ! 21 refl $
+          puts fits)
 
     -- the MIR from the entry on: what the parameters own is taken apart, the locals are made, and the count is opened
     walk : ent 𝓤 (onEntry 𝓤 H A add.signature (κ₀, (κ₁, (κ₂, tt))) (q₀, (q₁, (q₂, tt))) a vals) (WpFn 𝓤 H (𝓣 .C) (𝓣 .Λ) code.function (vo ∷ vptr b₁ o₁ ∷ O′.lowered order ∷ vint w32 reference ∷ vv ∷ []) Post)
