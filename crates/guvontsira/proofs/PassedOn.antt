@@ -1,6 +1,7 @@
 -- An exported function passes its parameters on to one function, at its own lifetimes and shares, and that function's answer to `auction_lines::numbers_of`.
 --     asks         what the exported function has on entry is what the other asks
---     answers      the other has returned u: the answer is stored, `numbers_of` is called, and its result is stored. What is left is the `return`, which is to show what the exported function promises (`done`)
+--     Stores       where the answer and the result go.        answers      the other has returned: the answer is stored, `numbers_of` is called, its result is stored, and the locals are freed
+--     passes-on    from a walk up to the call of the other, which `Rest` goes on from, to the statement that the exported function meets its contract
 -- n, bounds, params and kept are both functions' lifetimes, bounds and parameters, and whether these are kept.
 -- Assumes `Given`, and that the table of calls is monotone under a frame, as every `Tables` is.
 use mathlib.Core.Path.{_≡_, refl, sym, ap, subst}

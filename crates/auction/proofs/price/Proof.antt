@@ -1,6 +1,6 @@
 -- `auction::price` meets its contract: a walk of its MIR, by hand, since the borrow checker covers no reference to a struct. Nothing is computed here: all that the proof knows of `lists_fit`, `empty_line`, `bad_at_first`, `with_order`, `better` and `answer_of` is that each meets its contract (`Calls.antt`),
 -- and what the loops have done is said, and kept by a turn, in `Laws.antt`. The three borrows are opened once, before the loops, and closed once, after them: between, memory is the function's own, and each loop's state is a list of cells (`States.antt` has what holds of it).
---     Owned bs ss      what is owned while no borrow is open, the scratch lists being bs and ss.        exits, leaves      from there to what the contract says; and the `return`, which frees the locals
+--     Owned bs ss      what is owned while no borrow is open, the scratch lists being bs and ss.        exits      from there to what the contract says
 --     Cx               what a turn has while all are open: a share of the orders, both scratch lists, the locals, and more that no turn touches
 --     order-turn, orders-pass      a turn of the inner loop, and the loop. Its two ends are its caller's to go on from: every order was added, or a bad one was met and the label ends both loops
 --     place-turn, place-ends, places-pass      a turn of the outer loop, what it does after the inner one, and the loop

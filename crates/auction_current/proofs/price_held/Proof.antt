@@ -1,7 +1,7 @@
 -- `auction_current::price_held` meets its contract: a walk of its MIR, by hand. The first orders of the list are lent as a `&` to `price_and_volumes` and come back; the scratch list is passed on for good, and so is the list of orders to `clear_from`.
 --     Priced           what `price_and_volumes` says of its answer and of the last scratch list.        Promise          what the contract says
 --     gives-up         the list of orders is given up as it is: what is left says how it ends
---     exits, leaves    from what is left of both lists to what the contract says; and the `return`, which frees the locals
+--     exits            from what is left of both lists to what the contract says
 -- In a context local k of the MIR stands at 4 + k, behind both lists with their tokens.
 -- Assumes nothing.
 use mathlib.Core.Bool.{cond}

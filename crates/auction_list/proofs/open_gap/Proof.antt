@@ -1,6 +1,6 @@
 -- `auction_list::open_gap` meets its contract: a walk of its MIR, by hand. The borrow is opened before the loop and closed behind it. In a turn element i is taken out of the row, read, stored to and put back.
 --     Owned xs         what is owned while the borrow is closed, the list being xs
---     exits, leaves    from there to what the contract says; and the `return`, which frees the locals
+--     exits            from there to what the contract says
 --     turn, passes     a turn of the loop, and the loop (`Carried`'s `Up` holds before each turn)
 -- In a context local k of the MIR stands at 3 + k while the borrow is closed, at 1 + k while it is open, and at 3 + k while an element is out.
 -- Assumes nothing.

@@ -1,6 +1,6 @@
 -- `auction::volumes::price_and_volumes` meets its contract: a walk of its MIR, by hand, as that of `price` is, whose header says how it is ordered. It differs in the one scratch list and in the end:
 --     Owned vs         what is owned while no borrow is open, the scratch list being vs.        Left vs      the same once the list is given up for good, with what says that it ends as vs
---     exits, leaves    from `Left` to what the contract says; and the `return`, which frees the locals.        keeps        the `return` of a refusal, which gives the list up as it is
+--     exits        from `Left` to what the contract says.        keeps        the `return` of a refusal, which gives the list up as it is
 --     tail, refuses        what follows the loops: `clear_from` is passed the list, which does not come back, and the answer is made; or a bad order was met
 -- In a context local k of the MIR stands at 6 + k while no borrow is open, at 5 + k once the list is given up, and at 2 + k while both are open.
 -- Assumes nothing.
