@@ -1,4 +1,4 @@
--- A call in a walk of a function of `auction_lines`, whose parameters and result are plain data: `calls-data` (`walks: Plain`) at the contract of each that `price` and `price_and_volumes` call.
+-- A call in a walk of a function of `auction_lines`, whose parameters and result are plain data: `calls-data` (`walks: Plain`) at the contract of each that `price` and `price_and_volumes` call; and `asks-fits`, for any function that asks whether three numbers fit, as request 7's calls do too.
 -- Assumes `Given`, and that the table of calls is monotone under a frame, as every `Tables` is.
 use mathlib.Core.Bool.{Bool, true, false, not, _&&_}
 use mathlib.Core.Path.{_≡_, refl}

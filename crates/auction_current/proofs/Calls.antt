@@ -1,4 +1,4 @@
--- A call in a walk of a function of `auction_lines`, whose parameters and result are plain data: `calls-data` (`walks: Plain`) at the contract of each that `price_held`, `add` and `take` call.
+-- A call in a walk of a function of `auction_lines`, whose parameters and result are plain data: `calls-data` (`walks: Plain`) at the contract of each that `price_held`, `add` and `take` call, but those that ask whether the lists fit (`auction: Calls.asks-fits`).
 -- Assumes `Given`, and that the table of calls is monotone under a frame, as every `Tables` is.
 use mathlib.Core.Bool.{Bool}
 use mathlib.Core.Path.{refl}

@@ -1,6 +1,6 @@
 -- Every history of request 7's calls. The request speaks of one call; whoever keeps a list needs this of all of them: "after any sequence of calls the list is what the accepted calls make of it, in their order, and the last answer is the auction's of that list" (the issue of its landing).
 -- Assumes nothing.
-use mathlib.Core.Bool.{Bool, false, not}
+use mathlib.Core.Bool.{false}
 use mathlib.Core.List.{List, [], _∷_, _++_}
 use mathlib.Core.Path.{_≡_, refl, sym, _∙_, ap, subst}
 use Prim.Native.Nat.{ℕ, _≤_}

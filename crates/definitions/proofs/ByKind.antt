@@ -1,4 +1,5 @@
--- What each kind of event keeps where it meets no condition, an arm a kind. What is proved after this of an event goes by the five forms of a change.
+-- What each kind of event does to the header, and what it keeps where it meets no condition, an arm a kind. What is proved after this of an event goes by the
+-- five forms of a change, but for FiguresSet and Ownership, which say something of each kind too.
 -- Assumes nothing.
 use mathlib.Core.Bool.{true, false}
 use mathlib.Core.List.{List}
@@ -7,21 +8,54 @@ use mathlib.Core.Path.{_≡_, refl}
 use Prim.Native.Nat.{ℕ, _≤_, _<_}
 use borrow.Author.Tests.{ltb-false, lt-leb, not-false}
 use Rattle.ladder.specs.Ladder.{legal}
+use Rattle.definitions.specs.declared.Header.{Header}
 use Rattle.definitions.specs.declared.Row.{Row}
 use Rattle.definitions.specs.declared.Event.{Event}
 use Rattle.definitions.specs.declared.Event.the-variants as event
 use Rattle.definitions.specs.Codes.{limit, lastTime, preClose}
 use Rattle.definitions.specs.State.{headerOf, securityAt, deskAt}
 use Rattle.definitions.specs.Sound.{soundSecurity, soundRow, soundDesk}
-use Rattle.definitions.specs.Desks.{isOpen, cancelledRow, matchedRow, restRow}
+use Rattle.definitions.specs.Desks.{isOpen}
 use Rattle.definitions.specs.Changes.{Change, setClock, setSession, setSecurity, enterOrder, setRows, changeOf}
 use Rattle.definitions.specs.Gate.{marketViewAt, orderedAt}
 use Rattle.definitions.proofs.State.{length-desk-rows}
+use Rattle.definitions.proofs.HeaderWords.{withClock, withSession}
 use Rattle.definitions.proofs.Rows.{KeepsNumbers}
 use Rattle.definitions.proofs.SoundRow.{cancelled-frees, matched-frees, rest-changes, cancelled-sound, cancelled-kept, matched-sound, matched-kept, rest-sound, rest-kept}
 use Rattle.definitions.proofs.SoundDesk.{sound-ordered}
 use Rattle.definitions.proofs.SoundSecurity.{sound-setup, sound-prices, sound-figures}
 use Rattle.definitions.proofs.Passed.{Passed, passed}
+
+-- what a change makes of the header,
+abbrev pub headerIn : Change → Header → Header
+headerIn (setClock t) h = withClock t h
+headerIn (setSession s) h = withSession s h
+headerIn (setSecurity s f) h = h
+headerIn (enterOrder k x) h = h
+headerIn (setRows k f) h = h
+
+-- and by kind: "Only kind 1 moves the clock", and only kind 2 the session
+abbrev pub headerBy : Event → Header → Header
+headerBy (event.Clock t) h = withClock t h
+headerBy (event.Session s) h = withSession s h
+headerBy (event.Setup x) h = h
+headerBy (event.Prices x) h = h
+headerBy (event.Order k x) h = h
+headerBy (event.Cancel k x) h = h
+headerBy (event.Match k x) h = h
+headerBy (event.Rest k x) h = h
+headerBy (event.Figures x) h = h
+
+pub kind-header : (e : Event) (h : Header) → headerIn (changeOf e) h ≡ headerBy e h
+kind-header (event.Clock t) h = refl
+kind-header (event.Session s) h = refl
+kind-header (event.Setup x) h = refl
+kind-header (event.Prices x) h = refl
+kind-header (event.Order k x) h = refl
+kind-header (event.Cancel k x) h = refl
+kind-header (event.Match k x) h = refl
+kind-header (event.Rest k x) h = refl
+kind-header (event.Figures x) h = refl
 
 -- rows set at a clock: each stays sound and keeps its number; at any clock open rows alone change, and a row keeps its type or becomes a limit
 pub record RowsSet (securities clock : ℕ) (f : ℕ → Row → Row) : Type 0 where

@@ -13,7 +13,7 @@ use Rattle.definitions.specs.Gate as gate
 use Rattle.definitions.specs.Gate.{answerOf, made}
 use Rattle.definitions.proofs.Bytes.{clock, session, setup, prices, order, cancel, match}
 use Rattle.definitions.proofs.Run.{resultOn, wordsOf}
-use Rattle.definitions.proofs.Corner.{Corner, found, right, refused, done, verdict, written, joined, state, clockAt, sessionAt, deskAt, rowAt, security, plain, free, traded, untraded, counting, desk, main, foreign, buy, sell, limit, ato, atc, mp, online, entry, bytesOf, opened, cancelled, follows, bought, buys, openRows, twoCustomers}
+use Rattle.definitions.proofs.Corner.{Corner, found, right, refused, done, verdict, written, joined, state, clockAt, sessionAt, deskAt, rowAt, security, plain, free, traded, untraded, counting, desk, main, foreign, buy, sell, limit, ato, atc, mp, online, entry, opened, cancelled, follows, bought, buys, openRows, twoCustomers}
 
 -- one customer, one security, session 2, the clock at 5,000: no row, and an open row number 1
 abbrev pub bare : List ℕ

@@ -7,7 +7,7 @@ use mathlib.Core.Path.{_≡_, refl, ap, sym, _∙_}
 use Prim.Native.Nat.{ℕ, _+_, _≤_, _<_}
 use native.Mathlib.Omega.{arith}
 use lib.Dec.{leb, eqb, lit≤, lit<}
-use lib.ListN.{length, getD}
+use lib.ListN.{getD}
 use borrow.Author.Tests.{eq-eqb, ne-eqb, le-leb, lt-leb, lt-ltb, le-ltb}
 use Rattle.definitions.specs.declared.Figures.{Figures}
 use Rattle.definitions.specs.declared.Security.{Security}
@@ -26,7 +26,7 @@ use Rattle.definitions.specs.Refusals.{badName}
 use Rattle.definitions.specs.Gate.{Outcome, wordsOf, changeSecurity, afterSession, applied, perform, eventAnswer, eventWords}
 use Rattle.definitions.specs.Securities.{afterSetup, afterPrices, afterFigures}
 use Rattle.definitions.proofs.Tests.{either}
-use Rattle.definitions.proofs.Passed.{Passed, table, passed, Inside, none-met-event, answer-read}
+use Rattle.definitions.proofs.Passed.{Passed, passed, Inside, none-met-event, answer-read}
 use Rattle.definitions.proofs.WellFormed.{Good, fits, compared, records-sound, security-counted, below-securities, order-names, customer-named}
 use Rattle.definitions.proofs.SoundDesk as desk
 use Rattle.definitions.proofs.State as state

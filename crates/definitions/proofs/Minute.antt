@@ -12,7 +12,6 @@ use borrow.Author.Tests.{le-leb, eq-eqb}
 use Rattle.definitions.specs.declared.Row.{Row}
 use Rattle.definitions.specs.declared.Desk.{Desk}
 use Rattle.definitions.specs.declared.Cancel.{Cancel}
-use Rattle.definitions.specs.declared.Event.{Event}
 use Rattle.definitions.specs.declared.Event.the-variants as event
 use Rattle.definitions.specs.declared.Answer.{Answer}
 use Rattle.definitions.specs.declared.Answer.the-variants as answer
@@ -31,15 +30,15 @@ use Rattle.definitions.proofs.SoundDesk.{rows-counted, desk-true, lengt
 use Rattle.definitions.proofs.SoundRow.{cancelled-limit}
 use Rattle.definitions.proofs.State.{header-market, length-desk-rows, desk-put-same}
 use Rattle.definitions.proofs.Passed.{Passed, passed, none-met-event}
-use Rattle.definitions.proofs.ByKind.{Keeps, kind-keeps}
+use Rattle.definitions.proofs.ByKind.{headerIn, Keeps, kind-keeps}
 use Rattle.definitions.proofs.WellFormed.{Good, keeps, customer-named}
 use Rattle.definitions.proofs.Refused.{unrefused, unrefused-performs}
 use Rattle.definitions.proofs.Isolation.{loneOf}
 use Rattle.definitions.proofs.Standing.{StandsIn, stands-all, stands-mapped, stands-kept, stands-edited, stands-added}
-use Rattle.definitions.proofs.Performed.{headerBy, kept-by-event, header-performed, desk-performed}
+use Rattle.definitions.proofs.Performed.{kept-by-event, header-changed, desk-performed}
 
 -- refusal 7 never lets the clock go back
-clock-moves : (securities : ℕ) (w : List ℕ) (c : Change) → Keeps securities w c → headerOf w .clock ≤ headerBy c (headerOf w) .clock
+clock-moves : (securities : ℕ) (w : List ℕ) (c : Change) → Keeps securities w c → headerOf w .clock ≤ headerIn c (headerOf w) .clock
 clock-moves securities w (setClock t) kept = kept .1
 clock-moves securities w (setSession s) kept = le-refl (headerOf w .clock)
 clock-moves securities w (setSecurity s f) kept = le-refl (headerOf w .clock)
@@ -49,7 +48,7 @@ clock-moves securities w (setRows k f) kept = le-refl (headerOf w .clock)
 module _ {customers securities : ℕ} where
   clock-event : (w : List ℕ) → Good customers securities w → (b : List ℕ) → headerOf w .clock ≤ headerOf (eventWords w b) .clock
   clock-event w good =
-      kept-by-event (λ (v : List ℕ). headerOf w .clock ≤ headerOf v .clock) w (le-refl (headerOf w .clock)) (λ e p. rw (header-performed w good e p) (clock-moves securities w (changeOf e) (kind-keeps securities w e p)))
+      kept-by-event (λ (v : List ℕ). headerOf w .clock ≤ headerOf v .clock) w (le-refl (headerOf w .clock)) (λ e p. rw (header-changed w good e p) (clock-moves securities w (changeOf e) (kind-keeps securities w e p)))
 
   pub clock-history : (w : List ℕ) → Good customers securities w → (history : List (List ℕ)) → headerOf w .clock ≤ headerOf (wordsAfter w history) .clock
   unfolding wordsAfter

@@ -6,7 +6,6 @@ use mathlib.Core.Path.{_≡_, refl, sym, subst, _∙_}
 use Prim.Native.Nat.{ℕ, _<_}
 use native.Mathlib.Omega.{arith}
 use lib.Dec.{eqb}
-use lib.ListN.{length}
 use borrow.Author.Tests.{eqb-true}
 use Rattle.definitions.specs.declared.Header.{Header}
 use Rattle.definitions.specs.declared.Desk.{Desk}
@@ -21,23 +20,16 @@ use Rattle.definitions.specs.Lone.{Lone, loneApplied, fedTo}
 use Rattle.definitions.proofs.Tests.{either}
 use Rattle.definitions.proofs.State as state
 use Rattle.definitions.proofs.HeaderWords as words
-use Rattle.definitions.proofs.HeaderWords.{withClock, withSession}
+use Rattle.definitions.proofs.HeaderWords.{withSession}
 use Rattle.definitions.proofs.Passed.{Passed, passed, Inside, none-met-event}
+use Rattle.definitions.proofs.ByKind.{headerIn, headerBy, kind-header}
 use Rattle.definitions.proofs.SoundDesk as desk
 use Rattle.definitions.proofs.WellFormed.{Good, below-securities, order-names, customer-named}
 use Rattle.definitions.proofs.Isolation.{loneOf, same-perform, other-perform}
 use Rattle.definitions.proofs.SessionChange.{changed-words}
 
--- "Only kind 1 moves the clock", and only kind 2 the session
-abbrev pub headerBy : Change → Header → Header
-headerBy (setClock t) h = withClock t h
-headerBy (setSession s) h = withSession s h
-headerBy (setSecurity s f) h = h
-headerBy (enterOrder k x) h = h
-headerBy (setRows k f) h = h
-
 -- an event of another customer leaves the header
-pub other-header : (customers k : ℕ) (c : Change) (h : Header) → fedTo k (ownerNamed customers (named c .0)) ≡ false → headerBy c h ≡ h
+pub other-header : (customers k : ℕ) (c : Change) (h : Header) → fedTo k (ownerNamed customers (named c .0)) ≡ false → headerIn c h ≡ h
 other-header customers k (setClock t) h other = absurd (true≢false other)
 other-header customers k (setSession s) h other = absurd (true≢false other)
 other-header customers k (setSecurity s f) h other = refl
@@ -52,7 +44,7 @@ kept-by-event P w left done b =
     either (λ (o : Outcome). P (wordsOf w o)) (eqb first 0) _ _ (λ unmet. done (eventIn b) (none-met-event w b (eqb-true first 0 unmet))) (λ _. left)
 
 module _ {customers securities : ℕ} (w : List ℕ) (good : Good customers securities w) where
-  header-applied : (c : Change) → Inside w c → headerOf (wordsOf w (applied w c)) ≡ headerBy c (headerOf w)
+  header-applied : (c : Change) → Inside w c → headerOf (wordsOf w (applied w c)) ≡ headerIn c (headerOf w)
   unfolding afterSession
   header-applied (setClock t) inside = words.header-clock t w (omega (arith, good .sized .long))
   header-applied (setSession s) inside =
@@ -65,9 +57,12 @@ module _ {customers securities : ℕ} (w : List ℕ) (good : Good customers secu
   header-applied (setRows k f) inside =
       state.header-put-desk w (good .sized) k (customer-named w good k inside) _ (desk.length-changed _ (deskAt w k) ∙ state.length-desk-rows w k)
 
-  pub header-performed : (e : Event) → Passed w e → headerOf (wordsOf w (perform w e)) ≡ headerBy (changeOf e) (headerOf w)
+  pub header-changed : (e : Event) → Passed w e → headerOf (wordsOf w (perform w e)) ≡ headerIn (changeOf e) (headerOf w)
   unfolding perform
-  header-performed e p = header-applied (changeOf e) (passed 4 w e p)
+  header-changed e p = header-applied (changeOf e) (passed 4 w e p)
+
+  pub header-performed : (e : Event) → Passed w e → headerOf (wordsOf w (perform w e)) ≡ headerBy e (headerOf w)
+  header-performed e p = header-changed e p ∙ kind-header e (headerOf w)
 
   -- a customer's desk is after an event as the lone run has it, or as it was where the event is neither the market's nor that customer's
   pub desk-performed : (P : Desk → Type 0) (k : ℕ) → k < customers → (e : Event) → Passed w e

@@ -27,10 +27,10 @@ use Rattle.definitions.proofs.Rows.{all-append, all-replicate, all-keep
 use Rattle.definitions.proofs.SoundRow.{session-frees, expired-frees}
 use Rattle.definitions.proofs.SoundDesk.{rows-counted, no-rules}
 use Rattle.definitions.proofs.State.{header-market}
-use Rattle.definitions.proofs.ByKind.{Keeps, kind-keeps}
+use Rattle.definitions.proofs.ByKind.{headerIn, Keeps, kind-keeps}
 use Rattle.definitions.proofs.WellFormed.{Good, keeps}
 use Rattle.definitions.proofs.Isolation.{loneOf}
-use Rattle.definitions.proofs.Performed.{headerBy, other-header, kept-by-event, header-performed, desk-performed}
+use Rattle.definitions.proofs.Performed.{other-header, kept-by-event, header-changed, desk-performed}
 use Rattle.definitions.proofs.Standing.{StandsIn, stands-all}
 
 -- "ATO outside 1; ATC outside 4; MP outside 2" is rejected, and another session removes all three: such a row is there only in its session
@@ -113,7 +113,7 @@ module _ (l : Lone) (given : Stands (headerOf (l .market) .session) (l .desk .ro
   left-by : (f : Row → Row) → ((r : Row) → Fits now r → Fits now (f r)) → Stands now (edited f (l .desk .rows))
   left-by f h = edited-stand now (rowInItsSession now) f h (l .desk .rows) given
 
-  stand-applied : (securities : ℕ) (w : List ℕ) (c : Change) → Keeps securities w c → Stands (headerBy c (headerOf (l .market)) .session) (loneApplied l c .1 .desk .rows)
+  stand-applied : (securities : ℕ) (w : List ℕ) (c : Change) → Keeps securities w c → Stands (headerIn c (headerOf (l .market)) .session) (loneApplied l c .1 .desk .rows)
   unfolding loneApplied changed ordered counted added
   stand-applied securities w (setClock t) kept = given
   stand-applied securities w (setSession s) kept =
@@ -142,10 +142,10 @@ module _ {customers securities : ℕ} (k : ℕ) (below : k < customers) where
       let same = header-market w (good .sized) in
       kept-by-event (λ (v : List ℕ). Stands (headerOf v .session) (deskAt v k .rows)) w given
       (λ e p.
-      rw (header-performed w good e p)
-      (desk-performed w good (λ (d : Desk). Stands (headerBy (changeOf e) (headerOf w) .session) (d .rows)) k below e p
+      rw (header-changed w good e p)
+      (desk-performed w good (λ (d : Desk). Stands (headerIn (changeOf e) (headerOf w) .session) (d .rows)) k below e p
       (λ other. rw (other-header customers k (changeOf e) (headerOf w) other) given)
-      (subst (λ (h : Header). Stands (headerBy (changeOf e) h .session) (loneApplied (loneOf w k) (changeOf e) .1 .desk .rows)) same
+      (subst (λ (h : Header). Stands (headerIn (changeOf e) h .session) (loneApplied (loneOf w k) (changeOf e) .1 .desk .rows)) same
       (stand-applied (loneOf w k) (rw same given) securities w (changeOf e) (kind-keeps securities w e p)))))
 
   stand-history : (w : List ℕ) → Good customers securities w → Stands (headerOf w .session) (deskAt w k .rows)

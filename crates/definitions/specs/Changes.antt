@@ -22,7 +22,7 @@ pub data Change : Type 0 where
   setRows : ℕ → (ℕ → Row → Row) → Change
 
 -- "Only kind 1 moves the clock." "Kinds 3 and 4 replace the fields they name. A cancel marks an open limit row cancelled at the present clock, .. A match
--- lowers the volume"; kinds 8 and 9: paper 02, 1 and 3
+-- lowers the volume"; kinds 8 and 9: paper 02, 1 and 3. What a session that differs does, and an order by its verdict, is said in Gate and Desks.
 abbrev pub changeOf : Event → Change
 changeOf (event.Clock t) = setClock t
 changeOf (event.Session s) = setSession s

@@ -1,9 +1,9 @@
 -- An exported function passes its parameters on to one function, at its own lifetimes and shares, and that function's answer to `auction_lines::numbers_of`.
 --     asks         what the exported function has on entry is what the other asks
---     Stores       where the answer and the result go.        answers      the other has returned: the answer is stored, `numbers_of` is called, its result is stored, and the locals are freed
---     passes-on    from a walk up to the call of the other, which `Rest` goes on from, to the statement that the exported function meets its contract
+--     Stores       where the answer and the result go
+--     passes-on    from a walk up to the call of the other, which `BothCalls` goes on from, to the statement that the exported function meets its contract
 -- n, bounds, params and kept are both functions' lifetimes, bounds and parameters, and whether these are kept.
--- Assumes `Given`, and that the table of calls is monotone under a frame, as every `Tables` is.
+-- Assumes `Given` up to `passes-on`, which has it of the model, and that the table of calls is monotone under a frame, as every `Tables` is.
 use mathlib.Core.Path.{_≡_, refl, sym, ap, subst}
 use Prim.Native.Nat.{ℕ}
 use mathlib.Core.List.{List, [], _∷_, _++_}
@@ -131,7 +131,7 @@ module _ (n : ℕ) (bounds : List (Outlives n)) (params : List (Slot n)) (kept :
   module _ {M : Type 1} (𝓤 : URA M) (H : Heap 𝓤) (𝓜 : Model 𝓤 H) (𝓖 : GhostRules 𝓤 H) (𝓡 : Running 𝓤 H 𝓜) (γ : Routines) (spelled : Spelleds params) (f : Clauses 𝓤 Answering) (c : Clauses 𝓤 Exported) (k : Name)
       (g : (κs : Lfts n) (a : Args (Exported .signature) κs) → f κs a .ghost) where
     -- the walk's rest: both calls, where the other's operands are read
-    pub record Rest (𝓣 : Tables 𝓤 H) (κs : Lfts n) (qs : Shares n) (ok : AllOutlive n bounds κs) (a : Args (Exported .signature) κs) (h : c κs a .ghost) : Type 2 where
+    pub record BothCalls (𝓣 : Tables 𝓤 H) (κs : Lfts n) (qs : Shares n) (ok : AllOutlive n bounds κs) (a : Args (Exported .signature) κs) (h : c κs a .ghost) : Type 2 where
       pub calls-both : {K : Type 0} → K → {Γ : List (Item 𝓤)} {E : Env 𝓤 H} {xs : List Operand} {m : ℕ} → Opds K (givenOf 𝓤 H 𝓜 𝓖) (raw (Other 𝓤 H (𝓖 .A) f .pre ((κs, qs, ok, a, machine (Exported .signature) spelled κs a), g κs a)) ∷ Γ) E xs (flat (typesAt params κs) (machine (Exported .signature) spelled κs a))
           → Stores 𝓤 H (𝓖 .A) (givenOf 𝓤 H 𝓜 𝓖) (𝓜 .mem) (𝓡 .run) f c κs qs ok a (machine (Exported .signature) spelled κs a) (g κs a) h K Γ E m
           → Seq K (givenOf 𝓤 H 𝓜 𝓖) (raw (Other 𝓤 H (𝓖 .A) f .pre ((κs, qs, ok, a, machine (Exported .signature) spelled κs a), g κs a)) ∷ Γ)
@@ -141,7 +141,7 @@ module _ (n : ℕ) (bounds : List (Outlives n)) (params : List (Slot n)) (kept :
         → ((κs : Lfts n) (a : Args (Exported .signature) κs) (h : c κs a .ghost) (r : AuctionAnswer) (zs : Lasts Answering κs a) → ent 𝓤 (f κs a .ensures (g κs a) r (atExit Answering κs a zs)) (c κs a .ensures h (auctionNumbers r) (atExit Exported κs a zs)))
         → {routine : Routine} → γ k ≡ routine → Triple 𝓤 (𝓡 .run routine) (Other 𝓤 H (𝓖 .A) f) → γ #numbers-of ≡ numbers-of-def.routine
         → (exported : Name) (e : Fn) → Closed 𝓤 H (tables 𝓤 H 𝓜 𝓡 γ .C) (tables 𝓤 H 𝓜 𝓡 γ .Λ) exported e
-        → ((𝓣 : Tables 𝓤 H) (κs : Lfts n) (qs : Shares n) (ok : AllOutlive n bounds κs) (a : Args (Exported .signature) κs) (h : c κs a .ghost) → Typed (Exported .signature) spelled κs a → Rest 𝓣 κs qs ok a h
+        → ((𝓣 : Tables 𝓤 H) (κs : Lfts n) (qs : Shares n) (ok : AllOutlive n bounds κs) (a : Args (Exported .signature) κs) (h : c κs a .ghost) → Typed (Exported .signature) spelled κs a → BothCalls 𝓣 κs qs ok a h
         → Sq (givenOf 𝓤 H 𝓜 𝓖) (raw (Other 𝓤 H (𝓖 .A) f .pre ((κs, qs, ok, a, machine (Exported .signature) spelled κs a), g κs a)) ∷ [])
         (allocs (e .locals) (λ E. params′ E (flat (typesAt params κs) (machine (Exported .signature) spelled κs a)) (runs (𝓣 .C) (𝓣 .Λ) E (e .body) (atRet E (Promised 𝓤 H (𝓖 .A) (givenOf 𝓤 H 𝓜 𝓖) (𝓜 .mem) (𝓡 .run) f c κs qs ok a (machine (Exported .signature) spelled κs a) (g κs a) h))))))
         → Triple 𝓤 (𝓡 .run (γ exported)) (tripleOf 𝓤 H (𝓖 .A) (Exported .signature) (closing 𝓤 H (𝓖 .A) Exported c))
