@@ -44,8 +44,8 @@ pub both : {t a u b : Bool} → t ≡ a → u ≡ b → (t && u) ≡ (a && b)
 both p q = rw (p, q)
 
 -- a call has told of a test what its negation asks
-pub asked : {t u b : Bool} → t ≡ u → not t ≡ b → not u ≡ b
-asked e n = ap not (sym e) ∙ n
+pub asked : {t u b : Bool} → t ≡ u → t ≡ b → not u ≡ not b
+asked e n = ap not (sym e ∙ n)
 
 module _ (w : List ℕ) {h : Header} (eh : h ≡ header_of w) where
   pub found : {e f : Event} {n : ℕ} → e ≡ f → First (early_conditions h f ++ ((8, not (records_sound w f)) ∷ [])) n → n ≡ first_refusal w e

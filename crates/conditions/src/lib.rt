@@ -1,4 +1,6 @@
 // Paper 01, "Where an event is turned back": the conditions 4 to 8, in the table's order, for every kind of event.
+#![tactic(auto)]
+
 ghost use Rattle.std.specs.Prelude.{true, cond, ◌≡◌};
 ghost use Rattle.definitions.specs.State.{state_fits};
 ghost use Rattle.definitions.specs.Refusals.{bad_code};

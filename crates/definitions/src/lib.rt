@@ -1,10 +1,12 @@
 // The records, events and answers of papers 01 and 02, as the code has them. What they mean stands in specs/. No code.
+#![tactic(auto)]
+
 pub mod codes;
 
 use codes::DESK_ROWS;
 
 // Paper 01, "The lent state": the header.
-#[derive(Drop)]
+#[derive(Clone, Copy)]
 pub struct Header {
     pub customers: u32,
     pub securities: u32,
@@ -13,21 +15,21 @@ pub struct Header {
 }
 
 // What is set for a day: lot and flags, as kind 3's codes, and the prices from before it.
-#[derive(Drop)]
+#[derive(Clone, Copy)]
 pub struct Terms {
     pub lot: u32,
     pub free: u32,
     pub first_day: u32,
 }
 
-#[derive(Drop)]
+#[derive(Clone, Copy)]
 pub struct PriorPrices {
     pub close: u32,
     pub ipo: u32,
 }
 
 // The four prices of a security on one board; 0 is absent.
-#[derive(Drop)]
+#[derive(Clone, Copy)]
 pub struct Prices {
     pub projected: u32,
     pub last_sale: u32,
@@ -36,7 +38,7 @@ pub struct Prices {
 }
 
 // Paper 02, 3: what a dividend and a right to new shares take from the prior close; all zero without figures.
-#[derive(Drop)]
+#[derive(Clone, Copy)]
 pub struct Figures {
     pub dividend: u32,
     pub subscription: u32,
@@ -44,7 +46,7 @@ pub struct Figures {
     pub new_shares: u32,
 }
 
-#[derive(Drop)]
+#[derive(Clone, Copy)]
 pub struct Security {
     pub terms: Terms,
     pub prior: PriorPrices,
@@ -54,27 +56,27 @@ pub struct Security {
 }
 
 // Paper 02, 3: the base of the day's range, "kept as two whole numbers".
-#[derive(Drop)]
+#[derive(Clone, Copy)]
 pub struct Base {
     pub numerator: u64,
     pub denominator: u64,
 }
 
-#[derive(Drop)]
+#[derive(Clone, Copy)]
 pub struct Range {
     pub floor: u32,
     pub ceiling: u32,
 }
 
 // What a caller is given of a security's range.
-#[derive(Drop)]
+#[derive(Clone, Copy)]
 pub enum DailyRange {
     Given(Range),
     None,
 }
 
 // `order_type` is the paper's type of an order: `type` is a keyword.
-#[derive(Drop)]
+#[derive(Clone, Copy)]
 pub struct Row {
     pub mark: u32,
     pub number: u32,
@@ -87,7 +89,7 @@ pub struct Row {
     pub cancel_time: u32,
 }
 
-#[derive(Drop)]
+#[derive(Clone, Copy)]
 pub struct Desk {
     pub accepted: u32,
     pub warned: u32,
@@ -96,7 +98,7 @@ pub struct Desk {
 }
 
 // What a rule may see of the market: with one desk it is all that decides about an order (specs/Rules.antt).
-#[derive(Drop)]
+#[derive(Clone, Copy)]
 pub struct MarketView {
     pub session: u32,
     pub clock: u32,
@@ -105,21 +107,21 @@ pub struct MarketView {
 
 // Paper 01, "Events": a struct for each kind of more than one field. A customer's event stands beside the number of its customer, so that what decides
 // about an order is not given that number.
-#[derive(Drop)]
+#[derive(Clone, Copy)]
 pub struct Setup {
     pub security: u32,
     pub terms: Terms,
     pub prior: PriorPrices,
 }
 
-#[derive(Drop)]
+#[derive(Clone, Copy)]
 pub struct BoardPrices {
     pub security: u32,
     pub board: u32,
     pub prices: Prices,
 }
 
-#[derive(Drop)]
+#[derive(Clone, Copy)]
 pub struct Order {
     pub number: u32,
     pub security: u32,
@@ -131,32 +133,32 @@ pub struct Order {
     pub volume: u32,
 }
 
-#[derive(Drop)]
+#[derive(Clone, Copy)]
 pub struct Cancel {
     pub number: u32,
 }
 
-#[derive(Drop)]
+#[derive(Clone, Copy)]
 pub struct Match {
     pub number: u32,
     pub volume: u32,
 }
 
 // Paper 02, 1: the rest of an MP order, with the price at which it stays in the book as a limit.
-#[derive(Drop)]
+#[derive(Clone, Copy)]
 pub struct Rest {
     pub number: u32,
     pub price: u32,
 }
 
 // Paper 02, 3: new figures of a security.
-#[derive(Drop)]
+#[derive(Clone, Copy)]
 pub struct SecurityFigures {
     pub security: u32,
     pub figures: Figures,
 }
 
-#[derive(Drop)]
+#[derive(Clone, Copy)]
 pub enum Event {
     Clock(u32),
     Session(u32),
@@ -170,14 +172,14 @@ pub enum Event {
 }
 
 // What reading an event's bytes gives: the event, or the number of the refusal.
-#[derive(Drop)]
+#[derive(Clone, Copy)]
 pub enum Reading {
     Whole(Event),
     Refused(u32),
 }
 
 // Paper 01, "Verdicts": the letter of a reject is the rule that applies.
-#[derive(Drop)]
+#[derive(Clone, Copy)]
 pub enum Verdict {
     RejectS,
     RejectV,
@@ -191,14 +193,14 @@ pub enum Verdict {
 }
 
 // What a verdict counts as: the counter that it adds 1 to.
-#[derive(Drop)]
+#[derive(Clone, Copy)]
 pub enum Counter {
     Accepted,
     Warned,
     Rejected,
 }
 
-#[derive(Drop)]
+#[derive(Clone, Copy)]
 pub enum Answer {
     Ok,
     Verdict(Verdict),

@@ -1,4 +1,6 @@
 // What a verdict counts as, and whether its order takes a row.
+#![tactic(auto)]
+
 ghost use Rattle.std.specs.Prelude.{◌≡◌};
 ghost use Rattle.definitions.specs.Desks.{counted, counted_up, counter_of, is_rejected, takes_row};
 

@@ -1,4 +1,6 @@
 // Paper 01, "Events", and paper 02, 1: what becomes of one row, and what is asked of one.
+#![tactic(auto)]
+
 ghost use Rattle.std.specs.Prelude.{◌≡◌};
 ghost use Rattle.definitions.specs.Codes.{is_auction};
 ghost use Rattle.definitions.specs.Desks.{cancelled_in_minute, cancelled_row, expired_row, free_row, in_minute, matched_row, open_or_in_minute, open_mp_with, open_with, rest_row, row_of_order, session_row};

@@ -1,4 +1,6 @@
 // Paper 01, "Events" and "The lone run", and paper 02, 1: how a desk changes, and what condition 12 asks of it.
+#![tactic(auto)]
+
 ghost use Rattle.std.specs.Prelude.{◌≡◌, ◌<◌, eqb, replicate};
 ghost use Rattle.definitions.specs.Codes.{desk_rows};
 ghost use Rattle.definitions.specs.Desks.{added, added_last, changed, close_up, desk, edited, expired_row, free_row, open_or_in_minute, session_row, with_rows};

@@ -1,4 +1,6 @@
 // Paper 01, "Events", and paper 02's kinds: the bytes of one event, read whole or refused before any rule looks at them.
+#![tactic(auto)]
+
 ghost use Rattle.std.specs.Prelude.{◌≡◌, ◌+◌, ◌*◌, ◌≤◌, ◌<◌, length, get_or};
 ghost use Rattle.definitions.specs.Events.{two, four, length_of, clock_of, session_of, setup_of, prices_of, order_of, cancel_of, match_of, rest_of, figures_of, event_of};
 ghost use Rattle.events.specs.Readings.{read_event};

@@ -1,4 +1,6 @@
 // The gate: lent words and one event's bytes to an answer. Every refusal comes before the first word is written.
+#![tactic(auto)]
+
 ghost use Rattle.std.specs.Prelude.{true, ◌≡◌};
 ghost use Rattle.definitions.specs.State.{state_fits};
 ghost use Rattle.definitions.specs.Gate.{result_of, outcome, made};

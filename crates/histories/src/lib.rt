@@ -1,4 +1,6 @@
 // A history, handed to the gate in one call: events in lent bytes, one after another or by their lengths.
+#![tactic(auto)]
+
 ghost use Rattle.std.specs.Prelude.{◌≤◌, length, take};
 ghost use Rattle.definitions.specs.Walk.{split};
 ghost use Rattle.histories.specs.Ran.{Ran, cut, Ends};

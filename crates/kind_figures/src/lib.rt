@@ -1,4 +1,6 @@
 // Paper 02, 3: kind 9, the figures of a security.
+#![tactic(auto)]
+
 ghost use Rattle.std.specs.Prelude.{◌≡◌};
 ghost use Rattle.definitions.specs.declared.Event.TheVariants as event;
 ghost use Rattle.definitions.specs.Gate.{result_of};

@@ -1,4 +1,6 @@
 // Paper 01, "Events": kind 5, an order.
+#![tactic(auto)]
+
 ghost use Rattle.std.specs.Prelude.{◌≡◌};
 ghost use Rattle.definitions.specs.declared.Event.TheVariants as event;
 ghost use Rattle.definitions.specs.Gate.{result_of};

@@ -1,4 +1,6 @@
 // Paper 02, 1: kind 8, the rest of an MP order, which stays in the book as a limit.
+#![tactic(auto)]
+
 ghost use Rattle.std.specs.Prelude.{◌≡◌};
 ghost use Rattle.definitions.specs.declared.Event.TheVariants as event;
 ghost use Rattle.definitions.specs.Gate.{result_of};

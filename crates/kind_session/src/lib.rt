@@ -1,4 +1,6 @@
 // Paper 01, "Events": kind 2, a session.
+#![tactic(auto)]
+
 ghost use Rattle.std.specs.Prelude.{length, ◌≡◌};
 ghost use Rattle.definitions.specs.Lists.{each};
 ghost use Rattle.definitions.specs.State.{header_of, state_size};

@@ -1,4 +1,6 @@
 // Paper 01, "Prices and the ladder": which prices are legal, and at which position each stands.
+#![tactic(auto)]
+
 ghost use Rattle.std.specs.Prelude.{◌≡◌, ◌≤◌};
 ghost use Rattle.ladder.specs.Bands.{first_price, last_price};
 ghost use Rattle.ladder.specs.Ladder.{StepRule, band_of_price, legal, legal_down, legal_up, lower_number, nearest_to, on_step, position_number, position_of, price_at, upper_number};
@@ -8,21 +10,21 @@ mod legal_prices;
 use legal_prices::LEGAL_PRICES;
 
 // A row of the paper's table: the first price and the step in satang, and the position of the first price.
-#[derive(Drop)]
+#[derive(Clone, Copy)]
 pub struct Band {
     pub from: u32,
     pub step: u32,
     pub first: u32,
 }
 
-#[derive(Drop)]
+#[derive(Clone, Copy)]
 pub enum Position {
     At(u32),
     Off,
 }
 
 // Paper 02, 2: "the nearest position at or below, the nearest at or above, and whether the price is legal".
-#[derive(Drop)]
+#[derive(Clone, Copy)]
 pub struct NearestPositions {
     pub lower: u32,
     pub upper: u32,
@@ -30,20 +32,20 @@ pub struct NearestPositions {
 }
 
 // "for others, none"
-#[derive(Drop)]
+#[derive(Clone, Copy)]
 pub enum Nearest {
     Positions(NearestPositions),
     None,
 }
 
 // The prices at two positions.
-#[derive(Drop)]
+#[derive(Clone, Copy)]
 pub struct PricePair {
     pub low: u32,
     pub high: u32,
 }
 
-#[derive(Drop)]
+#[derive(Clone, Copy)]
 pub struct Ladder {}
 
 impl Ladder {

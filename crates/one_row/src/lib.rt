@@ -1,4 +1,6 @@
 // Kinds 6, 7 and 8 change one row of a desk, the one that they name by its number.
+#![tactic(auto)]
+
 ghost use Rattle.std.specs.Prelude.{◌≡◌, ◌+◌, ◌≤◌, ◌<◌, length};
 ghost use Rattle.definitions.specs.Codes.{desk_rows};
 ghost use Rattle.definitions.specs.State.{desk_at, desk_place, desk_size, header_of, put_desk};

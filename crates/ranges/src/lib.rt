@@ -1,4 +1,6 @@
 // Paper 02, 3, "Daily ceiling and floor": the base of a security's range, the range itself, and a price held against it.
+#![tactic(auto)]
+
 ghost use Rattle.std.specs.Prelude.{true, ◌≡◌, ◌*◌, ◌^◌, ◌≤◌, ◌<◌, max};
 ghost use Rattle.ladder.specs.Bands.{last_price};
 ghost use Rattle.ladder.specs.Ladder.{legal};

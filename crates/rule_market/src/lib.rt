@@ -1,4 +1,6 @@
 // Paper 01, "Verdicts, first that applies": the rules that read the market and one order, S, V, C, Q, warn 30 and warn 10.
+#![tactic(auto)]
+
 mod hours;
 mod percents;
 mod positions;

@@ -1,5 +1,7 @@
 // What the rules read of a session, a security and an order: the auction sessions, the best price opposite, the reference prices and the value.
 // 0 is an absent price.
+#![tactic(auto)]
+
 ghost use Rattle.std.specs.Prelude.{cond, ◌≡◌};
 ghost use Rattle.definitions.specs.Codes.{in_auction};
 ghost use Rattle.definitions.specs.Rules.{or_else, value_of, best_opposite, main_last_sale, first_day_ipo, reference_q, reference30, reference10};

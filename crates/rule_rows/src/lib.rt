@@ -1,4 +1,6 @@
 // Rules W and P: an order against the customer's own rows.
+#![tactic(auto)]
+
 ghost use Rattle.std.specs.Prelude.{true, ◌≡◌, ◌*◌, leb};
 ghost use Rattle.definitions.specs.Sound.{marked_first};
 ghost use Rattle.definitions.specs.Rules.{own_opposite, would_trade_at_projected, would_trade, trades_with_own, rule_w, reenters, rule_p};

@@ -1,4 +1,6 @@
 // Paper 01, "Verdicts, first that applies". A rule is given what it may see: the market's view, one desk and one order, no customer's number and no words.
+#![tactic(auto)]
+
 ghost use Rattle.std.specs.Prelude.{true, ◌≡◌};
 ghost use Rattle.definitions.specs.Sound.{marked_first, priced_as, sound_security};
 ghost use Rattle.definitions.specs.Rules.{verdict_of};

@@ -1,4 +1,6 @@
 // A security taken out of the words: the prices of one of its boards, what becomes of it, and when it is sound.
+#![tactic(auto)]
+
 ghost use Rattle.std.specs.Prelude.{◌≡◌};
 ghost use Rattle.definitions.specs.Securities.{after_figures, after_prices, after_setup, no_projected, security, with_prices, without_projected};
 ghost use Rattle.definitions.specs.Rules.{prices_on};

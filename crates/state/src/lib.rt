@@ -1,4 +1,6 @@
 // Paper 01, "The lent state": where its records stand in the words, condition 1, and a fresh state.
+#![tactic(auto)]
+
 mod fresh;
 mod words;
 

@@ -1,4 +1,6 @@
 // Paper 01, "The lent state": a security and a desk, taken out of the words and put back as one record; and a row, looked for where it stands.
+#![tactic(auto)]
+
 mod desk;
 mod search;
 mod security;

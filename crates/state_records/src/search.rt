@@ -11,7 +11,7 @@ use desk_rows::free_row;
 use state::desk_place_in;
 
 // What a look through a desk's rows for a number ends at: the row that has it, or the first free row; past the last row, a free row.
-#[derive(Drop)]
+#[derive(Clone, Copy)]
 pub struct RowAt {
     pub place: usize,
     pub row: Row,

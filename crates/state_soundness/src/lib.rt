@@ -1,4 +1,6 @@
 // Paper 01, "The lent state": whether a record is sound, and whether all are.
+#![tactic(auto)]
+
 mod every;
 mod rows;
 mod sound;

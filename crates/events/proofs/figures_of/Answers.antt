@@ -1,0 +1,12 @@
+-- `events::figures_of` meets its contract: each field is the number at its place in the body.
+use Rattle.events.proofs.figures_of.Goals as goal
+
+pub returns : goal.returns
+returns c =
+    rw (
+      c.two_at.ensures,
+      c.four_at.ensures,
+      c.four_at-2.ensures,
+      c.two_at-2.ensures,
+      c.two_at-3.ensures,
+    )

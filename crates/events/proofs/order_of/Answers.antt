@@ -1,0 +1,16 @@
+-- `events::order_of` meets its contract: each field is the number at its place in the body.
+use Rattle.events.proofs.order_of.Goals as goal
+
+pub returns : goal.returns
+returns c =
+    rw (
+      c.two_at.ensures,
+      c.four_at.ensures,
+      c.two_at-2.ensures,
+      c.byte_at.ensures,
+      c.byte_at-2.ensures,
+      c.byte_at-3.ensures,
+      c.byte_at-4.ensures,
+      c.four_at-2.ensures,
+      c.four_at-3.ensures,
+    )

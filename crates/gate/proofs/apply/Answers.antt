@@ -1,0 +1,73 @@
+-- `gate::apply` meets its contract: conditions 4 to 8, or the function of the event's kind.
+use mathlib.Core.List.{List}
+use Prim.Native.Nat.{ℕ}
+use mathlib.Core.Path.{◌≡◌, ap, sym, subst, ◌∙◌}
+use Rattle.definitions.specs.declared.Event.{Event}
+use Rattle.definitions.specs.Gate.{result_of}
+use Rattle.kind_contract.specs.First.{Ready, later_outcome}
+use Rattle.gate.proofs.Outcomes.{Left, event-refused, event-ready, event-later}
+use Rattle.gate.proofs.apply.Goals as goal
+
+-- what an event of a kind leaves is what the event that was read leaves
+of-kind : (w : List ℕ) {e f : Event} → e ≡ f → {x : Left} → x ≡ result_of w (later_outcome w f) → x ≡ result_of w (later_outcome w e)
+of-kind w kind does = does ∙ ap (λ (g : Event). result_of w (later_outcome w g)) (sym kind)
+
+pub first_refusal-refusal-requires : goal.first_refusal-refusal-requires
+first_refusal-refusal-requires c = c.requires
+
+pub returns-then-refusal-ne0 : goal.returns-then-refusal-ne0
+returns-then-refusal-ne0 c = event-refused _ _ c.first_refusal-refusal.ensures c.if-refusal-ne0.true
+
+pub handle-requires : goal.handle-requires
+handle-requires c = subst (Ready _) c.in-Clock.is (event-ready _ _ c.requires c.first_refusal-refusal.ensures c.if-refusal-ne0.false)
+
+pub handle-requires-in-Session : goal.handle-requires-in-Session
+handle-requires-in-Session c = subst (Ready _) c.in-Session.is (event-ready _ _ c.requires c.first_refusal-refusal.ensures c.if-refusal-ne0.false)
+
+pub handle-requires-in-Setup : goal.handle-requires-in-Setup
+handle-requires-in-Setup c = subst (Ready _) c.in-Setup.is (event-ready _ _ c.requires c.first_refusal-refusal.ensures c.if-refusal-ne0.false)
+
+pub handle-requires-in-Prices : goal.handle-requires-in-Prices
+handle-requires-in-Prices c = subst (Ready _) c.in-Prices.is (event-ready _ _ c.requires c.first_refusal-refusal.ensures c.if-refusal-ne0.false)
+
+pub handle-requires-in-Order : goal.handle-requires-in-Order
+handle-requires-in-Order c = subst (Ready _) c.in-Order.is (event-ready _ _ c.requires c.first_refusal-refusal.ensures c.if-refusal-ne0.false)
+
+pub handle-requires-in-Cancel : goal.handle-requires-in-Cancel
+handle-requires-in-Cancel c = subst (Ready _) c.in-Cancel.is (event-ready _ _ c.requires c.first_refusal-refusal.ensures c.if-refusal-ne0.false)
+
+pub handle-requires-in-Match : goal.handle-requires-in-Match
+handle-requires-in-Match c = subst (Ready _) c.in-Match.is (event-ready _ _ c.requires c.first_refusal-refusal.ensures c.if-refusal-ne0.false)
+
+pub handle-requires-in-Rest : goal.handle-requires-in-Rest
+handle-requires-in-Rest c = subst (Ready _) c.in-Rest.is (event-ready _ _ c.requires c.first_refusal-refusal.ensures c.if-refusal-ne0.false)
+
+pub handle-requires-in-Figures : goal.handle-requires-in-Figures
+handle-requires-in-Figures c = subst (Ready _) c.in-Figures.is (event-ready _ _ c.requires c.first_refusal-refusal.ensures c.if-refusal-ne0.false)
+
+pub returns-in-Clock : goal.returns-in-Clock
+returns-in-Clock c = event-later _ _ c.first_refusal-refusal.ensures c.if-refusal-ne0.false (of-kind c.args.words.now c.in-Clock.is c.handle.ensures)
+
+pub returns-in-Session : goal.returns-in-Session
+returns-in-Session c = event-later _ _ c.first_refusal-refusal.ensures c.if-refusal-ne0.false (of-kind c.args.words.now c.in-Session.is c.handle-in-Session.ensures)
+
+pub returns-in-Setup : goal.returns-in-Setup
+returns-in-Setup c = event-later _ _ c.first_refusal-refusal.ensures c.if-refusal-ne0.false (of-kind c.args.words.now c.in-Setup.is c.handle-in-Setup.ensures)
+
+pub returns-in-Prices : goal.returns-in-Prices
+returns-in-Prices c = event-later _ _ c.first_refusal-refusal.ensures c.if-refusal-ne0.false (of-kind c.args.words.now c.in-Prices.is c.handle-in-Prices.ensures)
+
+pub returns-in-Order : goal.returns-in-Order
+returns-in-Order c = event-later _ _ c.first_refusal-refusal.ensures c.if-refusal-ne0.false (of-kind c.args.words.now c.in-Order.is c.handle-in-Order.ensures)
+
+pub returns-in-Cancel : goal.returns-in-Cancel
+returns-in-Cancel c = event-later _ _ c.first_refusal-refusal.ensures c.if-refusal-ne0.false (of-kind c.args.words.now c.in-Cancel.is c.handle-in-Cancel.ensures)
+
+pub returns-in-Match : goal.returns-in-Match
+returns-in-Match c = event-later _ _ c.first_refusal-refusal.ensures c.if-refusal-ne0.false (of-kind c.args.words.now c.in-Match.is c.handle-in-Match.ensures)
+
+pub returns-in-Rest : goal.returns-in-Rest
+returns-in-Rest c = event-later _ _ c.first_refusal-refusal.ensures c.if-refusal-ne0.false (of-kind c.args.words.now c.in-Rest.is c.handle-in-Rest.ensures)
+
+pub returns-in-Figures : goal.returns-in-Figures
+returns-in-Figures c = event-later _ _ c.first_refusal-refusal.ensures c.if-refusal-ne0.false (of-kind c.args.words.now c.in-Figures.is c.handle-in-Figures.ensures)

@@ -1,0 +1,16 @@
+-- `gate::handle` meets its contract: condition 1, then the reading, then the event.
+use mathlib.Core.Path.{sym, ◌∙◌}
+use Rattle.gate.proofs.Outcomes.{outcome-misfit, outcome-refused, outcome-whole}
+use Rattle.gate.proofs.handle.Goals as goal
+
+pub returns-then-not-state_fits : goal.returns-then-not-state_fits
+returns-then-not-state_fits c = outcome-misfit _ _ (sym c.state_fits.ensures ∙ c.if-not-state_fits.true)
+
+pub returns-in_default : goal.returns-in_default
+returns-in_default c = outcome-refused _ _ (sym c.state_fits.ensures ∙ c.if-not-state_fits.false) c.read_event-reading.ensures c.in_default.is c.refused.ensures
+
+pub apply-requires : goal.apply-requires
+apply-requires c = sym c.state_fits.ensures ∙ c.if-not-state_fits.false
+
+pub returns : goal.returns
+returns c = outcome-whole _ _ (sym c.state_fits.ensures ∙ c.if-not-state_fits.false) c.read_event-reading.ensures c.in-Whole.is c.apply.ensures

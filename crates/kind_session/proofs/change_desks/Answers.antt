@@ -1,0 +1,35 @@
+-- `kind_session::change_desks` meets its contract: after each turn the words are those of the definition so far.
+use mathlib.Core.Path.{ap, ◌∙◌}
+use native.Mathlib.Omega.{arith}
+use Rattle.definitions.specs.declared.Header.{Header}
+use Rattle.definitions.specs.State.{put_desk}
+use Rattle.definitions.specs.Desks.{changed, session_row}
+use Rattle.state.proofs.Fits.{header-words}
+use Rattle.kind_session.proofs.Laws.{changed_at, so-far-start, so-far-next, so-far-end, changed-room, changed-length}
+use Rattle.kind_session.proofs.change_desks.Goals as goal
+
+pub overflow_add-k : goal.overflow_add-k
+overflow_add-k c = omega (arith, c.type_inv.words 0, ap (λ (h : Header). h.customers) c.header_of-h.ensures, ap (λ (h : Header). h.customers) (header-words c.args.words.now))
+
+pub loop-k-preserved : goal.loop-k-preserved
+loop-k-preserved c =
+    so-far-next changed_at _ c.loop-k.invariant c.loop-k-test.true
+    (c.put_desk.ensures ∙ ap (put_desk c.loop-k.words c.loop-k.k) (c.session_changed.ensures ∙ ap (changed session_row) c.desk_at-desk.ensures))
+
+pub header_of-h-requires : goal.header_of-h-requires
+header_of-h-requires c = omega (arith, c.requires)
+
+pub loop-k-init : goal.loop-k-init
+loop-k-init c = so-far-start changed_at _
+
+pub desk_at-desk-requires : goal.desk_at-desk-requires
+desk_at-desk-requires c = changed-room _ c.requires (ap (λ (h : Header). h.customers) c.header_of-h.ensures) c.loop-k.invariant c.loop-k-test.true
+
+pub put_desk-requires : goal.put_desk-requires
+put_desk-requires c = changed-room _ c.requires (ap (λ (h : Header). h.customers) c.header_of-h.ensures) c.loop-k.invariant c.loop-k-test.true
+
+pub shape_of-words : goal.shape_of-words
+shape_of-words c = changed-length _ c.requires (ap (λ (h : Header). h.customers) c.header_of-h.ensures) c.loop-k.invariant
+
+pub returns : goal.returns
+returns c = so-far-end changed_at _ c.loop-k.invariant c.loop-k-test.false (ap (λ (h : Header). h.customers) c.header_of-h.ensures)
