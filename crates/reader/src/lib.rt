@@ -1,18 +1,20 @@
-// Paper 01, "The day program": it "walks the lent bytes with one event reader". The borrow checker covers no function over a struct that holds a
-// reference, so the work is in `found_at`, over a plain slice, and the functions over the struct are thin.
+// Paper 01, "The day program": it "walks the lent bytes with one event reader". The work is in `found_at`, over a plain slice, and the functions over
+// the struct that holds a reference are thin.
+#![tactic(auto)]
+
 ghost use Rattle.std.specs.Prelude.{◌≡◌};
 ghost use Rattle.reader.specs.Places.{found_at};
 
 use events::length_of;
 
 // What stands at a position: an event, with the position after its last byte, or nothing.
-#[derive(Drop)]
+#[derive(Clone, Copy)]
 pub enum Found {
     Event(usize),
     End,
 }
 
-#[derive(Drop)]
+#[derive(Clone, Copy)]
 pub struct EventReader<'a> {
     pub bytes: &'a [u8],
     pub at: usize,
@@ -53,9 +55,9 @@ pub fn moved<'a>(r: EventReader<'a>, at: usize) -> EventReader<'a>
     EventReader { bytes: r.bytes, at }
 }
 
-// The parameters are plain, so that a caller needs no walk by hand.
-pub fn next_event(bytes: &[u8], at: usize) -> Found
-    ensures { result ≡ found_at bytes.now at }
+// For a caller that holds the bytes and a position.
+pub fn next_event(bytes: &[u8], from: usize) -> Found
+    ensures { result ≡ found_at bytes.now from }
 {
-    next(reader_at(bytes, at))
+    next(reader_at(bytes, from))
 }
