@@ -1,14 +1,15 @@
--- What holds before a turn of each of the two loops of `price` and of `price_and_volumes`, and that a turn keeps it. No machine and no memory: the walks in `price/Proof.antt` and `volumes/price_and_volumes/Proof.antt` cite these, and `Promised.antt` what they promise from there.
+-- What holds before a turn of each of the two loops of `price` and of `price_and_volumes`, and that a turn keeps it. `price` and `volumes/price_and_volumes` cite these, and `Promised.antt` what they promise from there.
 -- Assumes nothing.
 use mathlib.Core.Bool.{Bool, true, false, cond, not, ◌&&◌, ◌||◌}
 use mathlib.Core.List.{List, [], ◌∷◌, ◌++◌, map, map-append}
-use mathlib.Core.Path.{◌≡◌, refl, sym, ◌∙◌, ap}
+use mathlib.Core.Path.{◌≡◌, refl, sym, ◌∙◌, ap, subst}
 use Prim.Native.Nat.{ℕ, zero, suc, ◌+◌, ◌*◌, ◌≤◌, ◌<◌, ◌^◌}
 use native.Mathlib.Omega.{arith}
 use lib.Dec.{eqb}
 use lib.ListN.{length, get_or, set, take, drop, drop_of_length-le, length-map, length-set, length-take}
 use lib.Seq.{set_at, append_snoc, take_all}
 use borrow.Author.Tests.{eq-eqb, eqb-true}
+use Rattle.definitions.specs.Codes.{max_volume}
 use Rattle.definitions.specs.Lists.{any}
 use Rattle.definitions.proofs.Lists.{any-end, any_next, drop-next, take_next}
 use Rattle.definitions.proofs.Tests.{and_second}
@@ -16,6 +17,8 @@ use Rattle.auction_definitions.specs.declared.AuctionOrder.{AuctionOrder}
 use Rattle.auction_definitions.specs.declared.Line.{Line}
 use Rattle.auction_definitions.specs.Auction.{bad_order, buys_at, empty_line, line_at, place_line, sells_at, sum_of, sums_in}
 use Rattle.auction_definitions.specs.Current.{zero_order}
+use Rattle.auction_definitions.proofs.Accepted.{good-volume}
+use Rattle.auction_definitions.proofs.Among.{none_of, read}
 use Rattle.auction_lines.specs.Lines.{better_of, with_order}
 use Rattle.auction.specs.Turns.{best_after, filled_to, line_after}
 
@@ -26,8 +29,7 @@ pub record Candidates (orders : List AuctionOrder) (reference i : ℕ) (best : L
   pub best-left : best_after reference orders best (drop i orders) ≡ best_after reference orders (empty_line 0) orders
 
 -- and a scratch list that held the numbers of start has one of each place's line for the places passed
-pub record Filled (sum : Line → ℕ) (orders : List AuctionOrder) (start : List ℕ) (i : ℕ) : Type 0 where
-  pub list : List ℕ
+pub record Filled (sum : Line → ℕ) (orders : List AuctionOrder) (start : List ℕ) (i : ℕ) (list : List ℕ) : Type 0 where
   pub so_far : list ≡ filled_to sum orders i start
   pub long : length list ≡ length start
 
@@ -103,6 +105,16 @@ module _ (orders : List AuctionOrder) where
         sellers-small = omega (arith, at.sellers-small, volume, added-small (not (eqb line.price 0) && sells_at line.price (get_or orders j zero_order)) (get_or orders j zero_order).volume);
       }
 
+  -- an order that may be added is good: the first turn asked it, and all were asked before a later one
+  pub volume-small : {i j : ℕ} → (0 < i → any bad_order orders ≡ false) → j < length orders → (eqb i 0 && bad_order (get_or orders j zero_order)) ≡ false → (get_or orders j zero_order).volume < 2 ^ 32
+  volume-small {i = zero} {j = j} before small good = let v : (get_or orders j zero_order).volume ≤ max_volume = good-volume (get_or orders j zero_order) good in omega arith
+  volume-small {i = suc i} {j = j} before small good =
+      let v : (get_or orders j zero_order).volume ≤ max_volume = good-volume (get_or orders j zero_order) (none_of bad_order (get_or orders j zero_order) orders (before (omega arith)) (read orders j zero_order small)) in omega arith
+
+  -- no order is left
+  pub orders-end : {i j : ℕ} {line : Line} → length orders ≤ j → Orders orders i j line → Orders orders i (length orders) line
+  orders-end {i} {j} {line} h at = let last : j ≡ length orders = omega (arith, h, at.within) in subst (λ (k : ℕ). Orders orders i k line) last at
+
   -- every order was added: the line is the place's
   pub line-whole : {i : ℕ} {line : Line} → Orders orders i (length orders) line → line ≡ place_line orders (get_or orders i zero_order)
   unfolding line_after
@@ -125,25 +137,24 @@ module _ (orders : List AuctionOrder) where
     unfolding filled_to
     none_yet = refl
 
-    abbrev pub filled_start : Filled sum orders start 0
-    filled_start = record { list = start; so_far = none_yet; long = refl }
+    pub filled_start : Filled sum orders start 0 start
+    filled_start = record { so_far = none_yet; long = refl }
 
     -- the number of place i is stored
-    abbrev pub filled_next : {i : ℕ} {line : Line} → Filled sum orders start i → i < length orders → Orders orders i (length orders) line
-        → length orders ≤ length start → Filled sum orders start (i + 1)
-    filled_next {i} {line} at small done fits =
+    pub filled_next : {i : ℕ} {line : Line} {list : List ℕ} → Filled sum orders start i list → i < length orders → line ≡ place_line orders (get_or orders i zero_order)
+        → length orders ≤ length start → Filled sum orders start (i + 1) (set list i (sum line))
+    filled_next {i} {line} {list} at small whole fits =
         record {
-          list = set at.list i (sum line);
-          so_far = ap (λ l. set l i (sum line)) at.so_far ∙ set_next sum start i small (omega (arith, small, fits)) (line-whole done);
-          long = length-set at.list i (sum line) ∙ at.long;
+          so_far = ap (λ l. set l i (sum line)) at.so_far ∙ set_next sum start i small (omega (arith, small, fits)) whole;
+          long = length-set list i (sum line) ∙ at.long;
         }
 
-    pub filled-whole : {i : ℕ} (at : Filled sum orders start i) → i ≡ length orders → at.list ≡ sums_in sum orders start
+    pub filled-whole : {i : ℕ} {list : List ℕ} → Filled sum orders start i list → i ≡ length orders → list ≡ sums_in sum orders start
     unfolding filled_to sums_in
     filled-whole at last =
         at.so_far ∙ ap (λ (k : ℕ). filled_to sum orders k start) last ∙ ap (λ os. map (λ o. sum (place_line orders o)) os ++ drop (length orders) start) (take_all (length orders) orders (omega arith))
 
-    pub nothing-filled : {i : ℕ} (at : Filled sum orders start i) → i ≡ 0 → at.list ≡ start
+    pub nothing-filled : {i : ℕ} {list : List ℕ} → Filled sum orders start i list → i ≡ 0 → list ≡ start
     unfolding filled_to
     nothing-filled at first = at.so_far ∙ rw first
 

@@ -1,5 +1,3 @@
-pub mod Calls
 pub mod Chosen
 pub mod Laws
 pub mod Promised
-pub mod States

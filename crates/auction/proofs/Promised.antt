@@ -81,15 +81,15 @@ module _ (orders : List AuctionOrder) (reference : ℕ) (buyers sellers : List �
   promised-unfit unfit = let kept = left (refusal-14 unfit) refl in (refused (refusal-14 unfit) refl, kept.0, kept.1)
 
   pub promised : {i : ℕ} {best : Line} → fit ≡ true → i ≡ length orders → Candidates orders reference i best
-      → (bs : Filled (λ l. l.buyers) orders buyers i) (ss : Filled (λ l. l.sellers) orders sellers i) → Promised (answer_of false best) bs.list ss.list
+      → {bs ss : List ℕ} → Filled (λ l. l.buyers) orders buyers i bs → Filled (λ l. l.sellers) orders sellers i ss → Promised (answer_of false best) bs ss
   promised fits last at bs ss =
       let given = answered fits last at in
       (given.1, filled-whole orders (λ l. l.buyers) buyers bs last ∙ rw given.0, filled-whole orders (λ l. l.sellers) sellers ss last ∙ rw given.0)
 
   pub promised-bad : {i j : ℕ} {line : Line} (best : Line) → fit ≡ true → Orders orders i j line → j < length orders
       → (eqb i 0 && bad_order (get_or orders j zero_order)) ≡ true
-      → (bs : Filled (λ l. l.buyers) orders buyers i) (ss : Filled (λ l. l.sellers) orders sellers i)
-      → Promised (answer_of true best) bs.list ss.list
+      → {bs ss : List ℕ} → Filled (λ l. l.buyers) orders buyers i bs → Filled (λ l. l.sellers) orders sellers i ss
+      → Promised (answer_of true best) bs ss
   unfolding answer_of
   promised-bad best fits on small bad bs ss =
       let met = answered-bad fits on small bad in
@@ -113,24 +113,24 @@ module _ (orders : List AuctionOrder) (reference : ℕ) (volumes : List ℕ) whe
   promised-unfit-in-one unfit = refused-in-one (refusal-14 orders reference volumes volumes unfit) refl
 
   pub promised-bad-in-one : {i j : ℕ} {line : Line} → fit orders reference volumes volumes ≡ true → Orders orders i j line → j < length orders
-      → (eqb i 0 && bad_order (get_or orders j zero_order)) ≡ true → (vs : Filled volume_of orders volumes i) → PromisedInOne (Refused 15) vs.list
+      → (eqb i 0 && bad_order (get_or orders j zero_order)) ≡ true → {vs : List ℕ} → Filled volume_of orders volumes i vs → PromisedInOne (Refused 15) vs
   promised-bad-in-one fits on small bad vs =
       let met = answered-bad orders reference volumes volumes fits on small bad in
       let kept = refused-in-one met.1 refl in
       (kept.0, nothing-filled orders volume_of volumes vs met.0 ∙ kept.1)
 
   -- what stands behind the orders is cleared
-  cleared-whole : {i : ℕ} (vs : Filled volume_of orders volumes i) → i ≡ length orders → cleared_from (length orders) vs.list ≡ volumes_in orders volumes
+  cleared-whole : {i : ℕ} {vs : List ℕ} → Filled volume_of orders volumes i vs → i ≡ length orders → cleared_from (length orders) vs ≡ volumes_in orders volumes
   unfolding cleared_from volumes_in sums_in
-  cleared-whole vs last =
+  cleared-whole {vs = vs} filled last =
       let at : AuctionOrder → ℕ = λ o. volume_of (place_line orders o) in
-      ap (λ (k : ℕ). take (length orders) vs.list ++ zeros (k - length orders)) vs.long
-      ∙ ap (λ (l : List ℕ). take (length orders) l ++ zeros (length volumes - length orders)) (filled-whole orders volume_of volumes vs last)
+      ap (λ (k : ℕ). take (length orders) vs ++ zeros (k - length orders)) filled.long
+      ∙ ap (λ (l : List ℕ). take (length orders) l ++ zeros (length volumes - length orders)) (filled-whole orders volume_of volumes filled last)
       ∙ ap (λ (l : List ℕ). l ++ zeros (length volumes - length orders)) (take_at (map at orders) (drop (length orders) volumes) (length orders) (length-map orders at) ∙ sym (map_same (place_volume orders) at (place-volume orders) orders))
 
   pub promised-in-one : {i : ℕ} {best : Line} → fit orders reference volumes volumes ≡ true → i ≡ length orders → Candidates orders reference i best
-      → (vs : Filled volume_of orders volumes i) → PromisedInOne (answer_of false best) (cleared_from (length orders) vs.list)
+      → {vs : List ℕ} → Filled volume_of orders volumes i vs → PromisedInOne (answer_of false best) (cleared_from (length orders) vs)
   unfolding auction_in_one
-  promised-in-one fits last at vs =
+  promised-in-one fits last at filled =
       let given = answered orders reference volumes volumes fits last at in
-      (given.1, cleared-whole vs last ∙ rw given.0)
+      (given.1, cleared-whole filled last ∙ rw given.0)

@@ -1,5 +1,7 @@
 // Paper 02, 5 and 6: the price an auction would give, with two scratch lists or with one. Paper 01, "Code places and their forms": "nested loops over candidates and orders; a bad entry leaves both by a
 // label", and "a slice of small order structs read by the auction price, with sums done in covered functions", which are those of `auction_lines`.
+#![tactic(auto)]
+
 ghost use Rattle.std.specs.Prelude.{◌≡◌};
 ghost use Rattle.auction_definitions.specs.Auction.{auction, buyers_after, sellers_after};
 

@@ -1,4 +1,6 @@
 // Paper 02, 7: "Auction price kept current". Unless the count, a length or the place is refused before, both calls change the list, have the price worked out by request 6's call, and put back what they changed where that refuses, or where the order taken out is bad: an order is asked once.
+#![tactic(auto)]
+
 ghost use Rattle.std.specs.Prelude.{◌≡◌, cond, ◌≤◌, eqb, length, take};
 ghost use Rattle.auction_definitions.specs.Auction.{refusal};
 ghost use Rattle.auction_definitions.specs.Volumes.{auction_in_one, volumes_after};

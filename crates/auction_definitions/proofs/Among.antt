@@ -26,6 +26,7 @@ read (x ∷ xs) (suc i) d small = later (read xs i d (le_of_suc-le-suc small))
 module _ {A : Type 0} (t : A → Bool) where
   pub kept : (x : A) (xs : List A) → Among x xs → t x ≡ true → Among x (keep t xs)
   unfolding keep
+  kept x [] at has = elim at [ ]
   kept x (y ∷ ys) first has = rw has first
   kept x (y ∷ ys) (later at) has = go (t y) (kept x ys at has)
     where
@@ -46,11 +47,13 @@ module _ {A : Type 0} (t : A → Bool) where
   -- what any element has is false of each where it is false of all
   pub none_of : (x : A) (xs : List A) → any t xs ≡ false → Among x xs → t x ≡ false
   unfolding any
+  none_of x [] none at = elim at [ ]
   none_of x (y ∷ ys) none first = (or_parts (t x) (any t ys) none).0
   none_of x (y ∷ ys) none (later at) = none_of x ys (or_parts (t y) (any t ys) none).1 at
 
 module _ {A B : Type 0} (f : A → B) where
   pub mapped : (x : A) (xs : List A) → Among x xs → Among (f x) (map f xs)
+  mapped x [] at = elim at [ ]
   mapped x (y ∷ ys) first = first
   mapped x (y ∷ ys) (later at) = later (mapped x ys at)
 
@@ -60,6 +63,10 @@ module _ {A B : Type 0} (f : A → B) where
     pub among : Among of xs
     pub same : y ≡ f of
 
+  of-mapped-cons : (x : A) (xs : List A) (y : B) → Among y (f x ∷ map f xs) → (Among y (map f xs) → From y xs) → From y (x ∷ xs)
+  of-mapped-cons x xs y first below = record { of = x; among = first; same = refl }
+  of-mapped-cons x xs y (later at) below = let b : From y xs = below at in record { of = b.of; among = later b.among; same = b.same }
+
   pub of-mapped : (y : B) (xs : List A) → Among y (map f xs) → From y xs
-  of-mapped y (x ∷ xs) first = record { of = x; among = first; same = refl }
-  of-mapped y (x ∷ xs) (later at) = let below : From y xs = of-mapped y xs at in record { of = below.of; among = later below.among; same = below.same }
+  of-mapped y [] at = elim at [ ]
+  of-mapped y (x ∷ xs) at = of-mapped-cons x xs y at (of-mapped y xs)

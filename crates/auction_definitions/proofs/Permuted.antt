@@ -32,6 +32,7 @@ module _ {A : Type 0} where
   back (through p q) = through (back q) (back p)
 
   pub among-permuted : {x : A} {xs ys : List A} → Permuted xs ys → Among x xs → Among x ys
+  among-permuted none at = elim at [ ]
   among-permuted (both p) first = first
   among-permuted (both p) (later at) = later (among-permuted p at)
   among-permuted swap first = later first

@@ -32,5 +32,6 @@ module _ (reference : ℕ) where
   pub none-beats : (l : Line) (ls : List Line) (m : Line) → Among m (l ∷ ls) → beats reference m (unbeaten reference l ls) ≡ false
   unfolding unbeaten
   none-beats l [] m first = irreflexive reference l
+  none-beats l [] m (later at) = elim at [ ]
   none-beats l (n ∷ ns) m at =
       neither-beats (beats reference n l) l m n ns (unbeaten reference (cond (beats reference n l) n l) ns) refl (none-beats (cond (beats reference n l) n l) ns) at

@@ -1,4 +1,6 @@
 // Paper 02, 5 to 7: one order, one line, and two lines held against each other. Nothing here is handed a list, only how long lists are, how many orders are held and which place has its turn.
+#![tactic(auto)]
+
 ghost use Rattle.std.specs.Prelude.{◌≡◌, cond, not, ◌&&◌, ◌||◌, ◌+◌, ◌<◌, ◌^◌, min, eqb};
 ghost use Rattle.ladder.specs.Ladder.{legal};
 ghost use Rattle.auction_definitions.specs.Auction.{apart, auction_numbers, bad_order, beats, empty_line, lists_fit, volume_of};

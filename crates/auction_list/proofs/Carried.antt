@@ -1,7 +1,6 @@
 -- The gaps of `Gaps`, opened and closed a turn at a time, as the loops of `open_gap` and `close_gap` do, and what callers ask of them. No memory.
 --     carried_up, carried_down       so many turns: an order is put at a place, and the one that stood there is carried to the next, upwards; and downwards, to a place
 --     Up, Down                     what holds before a turn of either loop, by what is left to carry.        up_start, up_next, up-end and down-start, down-next, down-end      it holds at first, a turn keeps it, and at the end it is what the contract says
---     Turn                         a loop's state before a turn, with what holds of it
 --     carried-opens, carried-closes        all the turns are the gap opened, or closed
 --     length-opened, length-closed         the list is as long as it was
 --     reopened, reput              a gap closed is opened again with the order that stood there; one opened at the end is opened again with what stood there: the list is as it was
@@ -16,11 +15,8 @@ use native.Mathlib.Omega.{arith}
 use lib.ListN.{length, get_or, set, take, drop, length-append, length-drop, length-set, take-append-drop}
 use lib.Seq.{append_snoc, drop_at, drop-drop, drop-set-add, drop-set-lt, get_or-drop, length-take-le, set-get_or, set-set, set_split, take-add, take_at, take-set-le, take-suc, take-suc-set, take-take}
 use Rattle.definitions.proofs.Lists.{drop-next}
-use denote.Laws.{Is}
 use Rattle.auction_definitions.specs.declared.AuctionOrder.{AuctionOrder}
 use Rattle.auction_definitions.specs.Current.{zero_order}
-use Rattle.auction_definitions.specs.contracts.AuctionOrder as O
-use Rattle.auction_definitions.proofs.AuctionOrder.TheLaws as O'
 use Rattle.auction_list.specs.Gaps.{gap_closed, gap_opened}
 
 abbrev Orders : Type 0
@@ -204,14 +200,6 @@ down-next {place} {count} {i} {carried} {list} h at = record {
   from = omega arith;
   to = omega (arith, at.to);
 }
-
--- a loop's state before a turn, with what holds of it
-pub record Turn (holds : ℕ → AuctionOrder → Orders → Type 0) : Type 0 where
-  pub i : ℕ
-  pub carried : AuctionOrder
-  pub list : Orders
-  pub at : holds i carried list
-  pub carried-is : Is O.the_row carried (O'.lowered carried ∷ [])
 
 -- ---- a gap at the end
 

@@ -1,3 +1,1 @@
-pub mod Calls
 pub mod Carried
-pub mod Turns

@@ -1,4 +1,6 @@
 // Paper 02, 7: "The list is lent with its count": orders at the first places of a lent list, one put in or taken out among them, and what stands behind them cleared.
+#![tactic(auto)]
+
 ghost use Rattle.std.specs.Prelude.{◌≡◌, ◌-◌, ◌<◌, ◌≤◌, get_or, length};
 ghost use Rattle.definitions.specs.Lists.{any};
 ghost use Rattle.auction_definitions.specs.Auction.{bad_order};
