@@ -1,7 +1,7 @@
 -- What follows some parts of a body, which the generated MIR has under no name.
 -- Assumes nothing.
 use Prim.Native.Nat.{ℕ, zero, suc}
-use mir.Syntax.{Body, skip, seq, assign, block, loop, cond, switch, exit, return, call}
+use mir.Syntax.{Body, skip, seq, assign, block, loop, cond, switch, exit, return, call, unreachable, call_v, lend_static}
 
 -- what follows the first part of a sequence
 abbrev pub after : Body → Body
@@ -15,6 +15,9 @@ after (switch c arms) = skip
 after (exit n) = skip
 after return = skip
 after (call f xs d) = skip
+after unreachable = skip
+after (call_v o g xs d) = skip
+after (lend_static p t c) = skip
 
 -- and the first k
 abbrev pub past : ℕ → Body → Body

@@ -3,37 +3,27 @@
 --     empties          Γ entails it
 -- Assumes `Logic`.
 use mathlib.Core.Bool.{Bool, true, false}
-use mathlib.Core.HLevel.{¬_prop, Σ_prop_path}
 use mathlib.Core.Path.{◌≡◌, refl, sym, subst}
 use Prim.Native.Nat.{ℕ}
-use mathlib.Core.Nat as Unary
 use mathlib.Core.List.{List, [], ◌∷◌}
 use lib.Dec.{T}
 use seplogic.Ra.Ura.{Ura}
-use seplogic.Ra.TreeShare.BinTree
-use seplogic.Ra.TreeShare.{BinTree, leaf, node, TreeShare, top, ext, full_share}
+use base.Fraction.{one, below, full_share}
 use mir.Syntax.{Ty}
 use mir.Val.{Val}
 use base.Logic.{ent, id⊢, via, mono∗}
-use base.Fml.{Share, Fml, ftrue, ffalse, feq, flt, fsep, fand, for, fwand, fex, fall, fupd, fat, froom, fdies, flft, fdead, fobs, fauth, fres, fbor, fobor, flent, fshr_bor}
+use base.Fml.{Share, Fml, ftrue, ffalse, feq, flt, fsep, fand, for, fwand, fex, fall, fupd, fat, froom, fdies, flft, fdead, fobs, fauth, fres, fbor, fobor, flent, fshr_bor, fhide, fleft, fown, finv, fnamed, ftok, fkid, fme, fsent}
 use types.Logic.{Logic}
 use types.Kit.{Item, ‵, raw, ◌⊛◌, some, given, later, mean, ⋆, push, pop}
 
--- the whole tree, tested
-abbrev is_leaf : BinTree → Bool
-is_leaf (leaf b) = b
-is_leaf (node l r) = false
-
+-- the whole, tested
 abbrev is_full : Share → Bool
-is_full q = is_leaf q.0.0
-
-leaf-evals : (t : BinTree) → T (is_leaf t) → (p : Unary.ℕ → Bool) → BinTree.eval t p ≡ true
-leaf-evals (leaf true) e p = refl
-leaf-evals (leaf false) e p = absurd e
-leaf-evals (node l r) e p = absurd e
+is_full one = true
+is_full (below q) = false
 
 pub full_is : (q : Share) → T (is_full q) → q ≡ full_share
-full_is q e = Σ_prop_path (λ (s : TreeShare). ¬_prop) (ext {s = q.0} {t = top} (leaf-evals q.0.0 e))
+full_is one e = refl
+full_is (below q) e = absurd e
 
 module _ {M : Type 1} {𝓤 : Ura M} (𝓛 : Logic 𝓤) where
   open 𝓛 use {H}
@@ -72,6 +62,15 @@ module _ {M : Type 1} {𝓤 : Ura M} (𝓛 : Logic 𝓤) where
   of_formula (fobor κ q P) = same (‵ (fobor κ q P))
   of_formula (flent κ P) = same (‵ (flent κ P))
   of_formula (fshr_bor κ P) = same (‵ (fshr_bor κ P))
+  of_formula (fhide P) = same (‵ (fhide P))
+  of_formula (fleft q τ ts b o) = same (‵ (fleft q τ ts b o))
+  of_formula (fown R γ x) = same (‵ (fown R γ x))
+  of_formula (finv P) = same (‵ (finv P))
+  of_formula (fnamed n P) = same (‵ (fnamed n P))
+  of_formula (ftok m) = same (‵ (ftok m))
+  of_formula (fkid h a) = same (‵ (fkid h a))
+  of_formula (fme h) = same (‵ (fme h))
+  of_formula (fsent h) = same (‵ (fsent h))
 
   abbrev of_item : (i : Item 𝓤) → Entailed i
   of_item (‵ F) = of_formula F

@@ -10,7 +10,7 @@ use mir.Val.{Val}
 use base.Logic.{SProp, ent, sep, emp, via, emp∗, comm∗, mono_r}
 use prog.Wp.{WpFn, Tables, Closed}
 use prog.Model.{Model}
-use prog.Routine.{Name, Routine, Env}
+use prog.Routine.{Callee, Routine, Env}
 use types.Logic.{Logic}
 use sound.WpLaws.{WpFn-mono}
 use contract.Lifetimes.{Lfts, Shares, AllOutlive}
@@ -29,7 +29,7 @@ module _ {M : Type 1} {𝓤 : Ura M} (𝓛 : Logic 𝓤) (𝓜 : Model 𝓤 𝓛
   open 𝓛 use {H}
 
   pub record Cites (𝓣 : Tables 𝓤 H) : Type 2 where
-    pub cites : (c : Contract 𝓤) {k : Name} {r : Routine} → γ k ≡ r → Triple 𝓤 (𝓡.run r) c → Triple 𝓤 (𝓣.C k) c
+    pub cites : (c : Contract 𝓤) {k : Callee} {r : Routine} → γ k ≡ r → Triple 𝓤 (𝓡.run r) c → Triple 𝓤 (𝓣.C k) c
 
   -- the walk, at what is had of the parameters at exit
   abbrev pub Walk : (T : Ended) (hs : Stays T.signature.params T.kept) (sp : Spelleds T.signature.params) (c : Clauses 𝓤 T) → Fn → Type 2
@@ -38,7 +38,7 @@ module _ {M : Type 1} {𝓤 : Ura M} (𝓛 : Logic 𝓤) (𝓜 : Model 𝓤 𝓛
       (WpFn 𝓤 H 𝓣.C 𝓣.Λ e (flat (types_at T.signature.params κs) (machine T.signature sp κs a)) ((walk_of 𝓛 T hs c).post ((κs, qs, bounds, a, machine T.signature sp κs a), g)))
 
   pub walk-meets-at-exit : (T : Ended) (hs : Stays T.signature.params T.kept) → AllGo 𝓛 T.signature.lifetimes T.signature.params T.kept hs
-      → (sp : Spelleds T.signature.params) (c : Clauses 𝓤 T) (k : Name) (e : Fn) → Closed 𝓤 H (tables 𝓤 H 𝓜 𝓡 γ).C (tables 𝓤 H 𝓜 𝓡 γ).Λ k e → Walk T hs sp c e
+      → (sp : Spelleds T.signature.params) (c : Clauses 𝓤 T) (k : Callee) (e : Fn) → Closed 𝓤 H (tables 𝓤 H 𝓜 𝓡 γ).C (tables 𝓤 H 𝓜 𝓡 γ).Λ k e → Walk T hs sp c e
       → Triple 𝓤 (𝓡.run (γ k)) (triple_of 𝓛 T.signature (closing 𝓛 T c))
   unfolding tables_of
   walk-meets-at-exit T hs gs sp c k e closed walk =
@@ -48,7 +48,7 @@ module _ {M : Type 1} {𝓤 : Ura M} (𝓛 : Logic 𝓤) (𝓜 : Model 𝓤 𝓛
       (walked 𝓛 T hs c (WpFn 𝓤 H 𝓣.C 𝓣.Λ e) (λ κs. spells κs T.signature.params sp) (λ κs. all_tell κs T.signature.params sp)
       (walk 𝓣 (record { cites = λ d {k} {r}. cited 𝓤 H d 𝓜 𝓡 γ k r }))))
 
-  pub walk-proves : (T : Ended) (ps : Of T) (c : Clauses 𝓤 T) (k : Name) (e : Fn) → Closed 𝓤 H (tables 𝓤 H 𝓜 𝓡 γ).C (tables 𝓤 H 𝓜 𝓡 γ).Λ k e → Walk T (stayed T ps) (spelleds T.signature.params T.kept ps) c e
+  pub walk-proves : (T : Ended) (ps : Of T) (c : Clauses 𝓤 T) (k : Callee) (e : Fn) → Closed 𝓤 H (tables 𝓤 H 𝓜 𝓡 γ).C (tables 𝓤 H 𝓜 𝓡 γ).Λ k e → Walk T (stayed T ps) (spelleds T.signature.params T.kept ps) c e
       → Triple 𝓤 (𝓡.run (γ k)) (triple_of 𝓛 T.signature (closing 𝓛 T c))
   walk-proves T ps = walk-meets-at-exit T (stayed T ps) (all_go 𝓛 T.signature.params T.kept ps) (spelleds T.signature.params T.kept ps)
 
