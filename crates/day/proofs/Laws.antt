@@ -4,27 +4,26 @@ use mathlib.Core.Bool.{Bool, true, false}
 use mathlib.Core.List.{List, [], ◌∷◌, ◌++◌}
 use mathlib.Core.Path.{◌≡◌, refl, sym, ◌∙◌, ap}
 use Prim.Native.Nat.{ℕ, zero, suc, ◌+◌, ◌-◌, ◌*◌, ◌/◌, ◌%◌, ◌^◌, ◌≤◌, ◌<◌}
-use native.Mathlib.Nat.{mod-lt, mod-eq_of_lt, pow-suc, one-le-pow, pow-le-pow_right, div-lt_iff_lt-mul, le-div_iff_mul-le}
+use native.Mathlib.Nat.{mod-eq_of_lt, pow-suc, one-le-pow, pow-le-pow_right, div-lt_iff_lt-mul, le-div_iff_mul-le}
 use native.Mathlib.Omega.{arith}
 use lib.Dec.{leb}
 use lib.ListN.{length, take, length-append}
-use lib.Seq.{take-length, take-append_seam, take-append-le, take-append-add, length-take-le}
+use lib.Seq.{take-append_seam, take-append-le, take-append-add, length-take-le}
 use borrow.Author.Tests.{leb-true, leb-false, lt-ltb, le-ltb}
-use Rattle.io.specs.Counts.{IsPrefixLen}
-use Rattle.io.specs.Digits.{last_digits, IsDigitCount}
 use Rattle.definitions.specs.Answers.{decimal_in}
-use Rattle.day.specs.Text.{Opens}
+use Rattle.day.specs.Text.{IsPrefixLen, Opens}
+use Rattle.day.specs.Digits.{last_digits, IsDigitCount}
 
--- `Counts` asks the length of the bytes counted too
-counts : (n : ℕ) (bytes : List ℕ) → n ≤ length bytes → IsPrefixLen n bytes
+-- `IsPrefixLen` asks the length of the bytes counted too
+pub counts : (n : ℕ) (bytes : List ℕ) → n ≤ length bytes → IsPrefixLen n bytes
 counts n bytes h = (h, sym (length-take-le n bytes h))
 
--- after `bytes::copy`
-pub copied : (words rest after : List ℕ) (n : ℕ) → n ≡ length words → after ≡ take (length words) words ++ rest → Opens words n after
+-- after `copy`
+pub copied : (words rest after : List ℕ) (n : ℕ) → n ≡ length words → after ≡ words ++ rest → Opens words n after
 copied words rest after n count e =
     record {
-      within = counts n after (rw (e, take-length words, count) (simp length-append (omega arith)));
-      same = rw (e, take-length words, count) (take-append_seam words rest);
+      within = counts n after (rw (e, count) (simp length-append (omega arith)));
+      same = rw (e, count) (take-append_seam words rest);
     }
 
 -- words behind other words
@@ -40,7 +39,7 @@ opens-both first second bytes others rest n m f s =
     }
 
 -- a number below a power of ten has no more digits than that
-pub few-digits : (most k n : ℕ) → 1 ≤ most → n < 10 ^ most → IsDigitCount 10 1 n k → k ≤ most
+pub few-digits : (most k n : ℕ) → 1 ≤ most → n < 10 ^ most → IsDigitCount n k → k ≤ most
 few-digits most k n one small (some, below, above) = go (leb k most) refl
   where
     go : (t : Bool) → leb k most ≡ t → k ≤ most
@@ -49,18 +48,18 @@ few-digits most k n one small (some, below, above) = go (leb k most) refl
         let more : most < k = leb-false k most e in
         absurd (omega (arith, above (omega arith), pow-le-pow_right {n = 10} (omega arith) {i = most} {j = k - 1} (omega arith)))
 
--- what `io::decimal` puts is the definition's decimal
-pub same-decimal : (most k n : ℕ) → k ≤ most → IsDigitCount 10 1 n k → decimal_in most n ≡ last_digits 10 k n
+-- what `decimal` puts is the definition's decimal
+pub same-decimal : (most k n : ℕ) → k ≤ most → IsDigitCount n k → decimal_in most n ≡ last_digits k n
 unfolding decimal_in
 same-decimal most zero n h (some, below, above) = absurd (omega arith)
 same-decimal zero (suc k) n h (some, below, above) = absurd (omega arith)
-same-decimal (suc most) (suc zero) n h (some, below, above) = rw (mod-eq_of_lt below, lt-ltb n 10 below)
+same-decimal (suc most) (suc zero) n h (some, below, above) = rw (mod-eq_of_lt below, lt-ltb n 10 below) refl
 same-decimal (suc most) (suc (suc k)) n h (some, below, above) =
     let all : suc (suc k) - 1 ≡ suc k = omega arith in
     let one_less : suc k - 1 ≡ k = omega arith in
     let large : 10 ^ k * 10 ≤ n = rw (all, pow-suc) at (above (omega arith)) in
     let small : n < 10 ^ suc k * 10 = rw pow-suc at below in
-    let rest : IsDigitCount 10 1 (n / 10) (suc k) =
+    let rest : IsDigitCount (n / 10) (suc k) =
     (omega arith, (div-lt_iff_lt-mul {k = 10} (omega arith)).1 small, λ more. rw one_less ((le-div_iff_mul-le {k = 10} (omega arith)).1 large)) in
-    rw (le-ltb n 10 (omega (arith, one-le-pow k 10 (omega arith))), lt-ltb (n % 10) 10 (mod-lt n (omega arith)))
+    rw (le-ltb n 10 (omega (arith, one-le-pow k 10 (omega arith))))
     (ap (λ (ds : List ℕ). ds ++ ((48 + n % 10) ∷ [])) (same-decimal most (suc k) (n / 10) (omega arith) rest))

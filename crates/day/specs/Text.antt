@@ -1,8 +1,18 @@
 -- What is said of words that are put at the start of lent bytes.
-use Rattle.std.specs.Prelude.{List, ◌≡◌, ℕ, take}
-use Rattle.io.specs.Counts.{IsPrefixLen}
+use Rattle.std.specs.Prelude.{List, [], ◌∷◌, ◌++◌, ◌≡◌, ◌≤◌, ℕ, length, take}
+use Rattle.std.specs.Fmt.{decimal}
+use Rattle.definitions.specs.Answers.{answer_text}
+use Rattle.definitions.specs.declared.Answer.{Answer}
+
+-- `&bytes[..n]` is in bounds and has n bytes
+abbrev pub IsPrefixLen : ℕ → List ℕ → Type 0
+IsPrefixLen n bytes = (n ≤ length bytes) × (n ≡ length (take n bytes))
 
 -- the first n of the bytes are the words, and no more than the words
 pub record Opens (words : List ℕ) (n : ℕ) (bytes : List ℕ) : Type 0 where
   pub within : IsPrefixLen n bytes
   pub same : take n bytes ≡ words
+
+-- a line of the listing: an event's index, its kind byte and its answer, and the end of the line
+abbrev pub line_text : ℕ → ℕ → Answer → List ℕ
+line_text index kind answer = (decimal index ++ 32 ∷ (decimal kind ++ 32 ∷ [])) ++ (answer_text answer ++ 10 ∷ [])
