@@ -36,7 +36,7 @@ fn link(folder: &Path) {
     println!("cargo::rerun-if-changed={}", archive.display());
     if !archive.is_file() {
         println!(
-            "cargo::error={} is missing: make it with `rt staticlib guvontsira`, \
+            "cargo::error={} is missing: make it with `./build library`, \
              or set {VARIABLE} to the folder that has it",
             archive.display()
         );

@@ -1,4 +1,6 @@
 // What a user links: the gate and the ladder under C's calling convention. Answers are numbers (crates/definitions/specs/Answers.antt).
+#![tactic(auto)]
+
 ghost use Rattle.std.specs.Prelude.{◌≡◌, length, take};
 ghost use Rattle.ladder.specs.Ladder.{lower_number, nearest_to, position_of, position_number, price_at, upper_number};
 ghost use Rattle.definitions.specs.Answers.{answer_number};

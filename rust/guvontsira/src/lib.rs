@@ -17,7 +17,7 @@
 //!
 //! The archive `libguvontsira.a` is looked for in the folder that the
 //! environment variable `GUVONTSIRA_LIB` names, else in `target/staticlib` of
-//! the project, where `rt staticlib guvontsira` puts it.
+//! the project, where `./build library` puts it.
 
 #![deny(unsafe_code)]
 #![warn(missing_debug_implementations)]
