@@ -2,7 +2,7 @@
 use Rattle.std.specs.Prelude.{List, [], ◌∷◌, ◌++◌, ◌≡◌, ◌≤◌, ℕ, length, take}
 use Rattle.std.specs.Fmt.{decimal}
 use Rattle.definitions.specs.Answers.{answer_text}
-use Rattle.definitions.specs.declared.Answer.{Answer}
+use Rattle.definitions.specs.Answers.{Answer}
 
 -- `&bytes[..n]` is in bounds and has n bytes
 abbrev pub IsPrefixLen : ℕ → List ℕ → Type 0

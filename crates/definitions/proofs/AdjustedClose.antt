@@ -1,6 +1,7 @@
 -- Paper 02, 2, "Closing prices after a right has gone": where the reference is on the ladder warn 10 is paper 01's, between two steps it counts from both, and a
 -- setup is refused for its prior close where that is beyond the last price and nowhere else.
 -- Assumes nothing.
+use Rattle.std.specs.Prelude.{Some}
 use mathlib.Core.Bool.{Bool, true, false, ◌&&◌, ◌||◌, not, and-true, and-false}
 use mathlib.Core.List.{List, [], ◌∷◌}
 use mathlib.Core.Logic.{⊎_elim}
@@ -9,7 +10,6 @@ use Prim.Native.Nat.{ℕ, ◌+◌, ◌≤◌, ◌<◌}
 use native.Mathlib.Omega.{arith}
 use lib.Dec.{ltb, eqb}
 use borrow.Author.Tests.{eqb-true, ne_eqb, le-leb, lt-leb}
-use Rattle.ladder.specs.declared.Nearest.TheVariants.{Positions}
 use Rattle.ladder.specs.Bands.{last_price, positions}
 use Rattle.ladder.specs.Ladder.{band_of_price, legal, nearest_in, nearest_to, position_of, position_number, price_at}
 use Rattle.ladder.proofs.Laws.{legal-true}
@@ -19,7 +19,7 @@ use Rattle.definitions.specs.declared.MarketView.{MarketView}
 use Rattle.definitions.specs.declared.Order.{Order}
 use Rattle.definitions.specs.declared.Setup.{Setup}
 use Rattle.definitions.specs.declared.Event.TheVariants as event
-use Rattle.definitions.specs.declared.Answer.TheVariants as answer
+use Rattle.definitions.specs.Answers as answer
 use Rattle.definitions.specs.Lists.{first_met}
 use Rattle.definitions.specs.State.{header_of, security_at}
 use Rattle.definitions.specs.Sound.{price_or_absent, sound_terms, sound_prices}
@@ -51,7 +51,7 @@ legal-apart : (reference k : ℕ) → legal reference ≡ true → ten_apart (ne
 legal-apart reference k t =
     let h = legal-true reference t in
     let n = nearest_in (band_of_price reference) reference in
-    let e : nearest_to reference ≡ Positions n = answered reference h.above h.below in
+    let e : nearest_to reference ≡ Some n = answered reference h.above h.below in
     let same : n.lower ≡ n.upper = both_equal reference n e t in
     rw (at_position reference n e t, e) cc
 

@@ -2,8 +2,8 @@
 use mathlib.Core.List.{List, [], ◌∷◌, map}
 use mathlib.Core.Path.{◌≡◌, refl}
 use Prim.Native.Nat.{ℕ}
-use Rattle.definitions.specs.declared.Answer.{Answer}
-use Rattle.definitions.specs.declared.Answer.TheVariants as answer
+use Rattle.definitions.specs.Answers.{Answer}
+use Rattle.definitions.specs.Answers as answer
 use Rattle.definitions.specs.declared.Verdict.TheVariants.{RejectS, RejectV, RejectC, RejectQ, RejectW, RejectP, Warn30, Warn10, Accept}
 use Rattle.definitions.specs.Answers.{answer_number, ascii, decimal_in, answer_text}
 

@@ -1,18 +1,16 @@
 -- Paper 01, "Along each edge": the cases marked to be proved, as entries of one table, and one theorem over the whole; and the edges of paper 02's requests.
+use Rattle.std.specs.Prelude.{Option, Some, None}
 use mathlib.Core.Bool.{true, false}
 use mathlib.Core.List.{List, [], ◌∷◌, ◌++◌, map}
 use mathlib.Core.Path.{◌≡◌, refl}
 use Prim.Native.Nat.{ℕ, ◌+◌}
-use Rattle.ladder.specs.declared.Position.{Position}
-use Rattle.ladder.specs.declared.Position.TheVariants.{At}
-use Rattle.ladder.specs.declared.Nearest.{Nearest}
-use Rattle.ladder.specs.declared.Nearest.TheVariants.{Positions, None}
+use Rattle.ladder.specs.declared.NearestPositions.{NearestPositions}
 use Rattle.ladder.specs.Ladder.{position_of, nearest_to, legal, band_of_price, last_band}
 use Rattle.definitions.specs.declared.Figures.{Figures}
 use Rattle.definitions.specs.declared.Base.{Base}
 use Rattle.definitions.specs.declared.Range.{Range}
-use Rattle.definitions.specs.declared.Answer.TheVariants as answer
-use Rattle.definitions.specs.declared.Answer.{Answer}
+use Rattle.definitions.specs.Answers as answer
+use Rattle.definitions.specs.Answers.{Answer}
 use Rattle.definitions.specs.declared.Verdict.{Verdict}
 use Rattle.definitions.specs.declared.Verdict.TheVariants.{RejectV, RejectC, RejectQ, RejectW, RejectP, Warn30, Warn10, Accept}
 use Rattle.definitions.specs.Ranges.{base_of, range_of, floor_of, ceiling_of}
@@ -27,8 +25,8 @@ pub data Question : Type 0 where
   last_answer : List (List ℕ) → Question
 
 pub data Found : Type 0 where
-  at : Position → Found
-  beside : Nearest → Found
+  at : Option ℕ → Found
+  beside : Option NearestPositions → Found
   between-prices : Base → Range → Found
   answered : Answer → Found
 
@@ -44,17 +42,17 @@ pub record Case : Type 0 where
 
 -- a price and its position
 abbrev pub stands : ℕ → ℕ → Case
-stands price k = record { asked = position price; right = at (At k) }
+stands price k = record { asked = position price; right = at (Some k) }
 
 -- a price and its nearest positions: two where it lies between two steps, and one where it is legal
-abbrev pub lies : ℕ → Nearest → Case
+abbrev pub lies : ℕ → Option NearestPositions → Case
 lies price n = record { asked = nearest price; right = beside n }
 
-abbrev pub between : ℕ → ℕ → Nearest
-between lower upper = Positions (record { lower = lower; upper = upper; legal = false })
+abbrev pub between : ℕ → ℕ → Option NearestPositions
+between lower upper = Some (record { lower = lower; upper = upper; legal = false })
 
-abbrev pub exactly : ℕ → Nearest
-exactly k = Positions (record { lower = k; upper = k; legal = true })
+abbrev pub exactly : ℕ → Option NearestPositions
+exactly k = Some (record { lower = k; upper = k; legal = true })
 
 -- a prior close with figures, its base as two whole numbers, its floor and its ceiling
 abbrev pub ranges : ℕ → Figures → ℕ × ℕ → ℕ → ℕ → Case

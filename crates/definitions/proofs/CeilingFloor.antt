@@ -1,5 +1,6 @@
 -- Paper 02, 3, "Daily ceiling and floor": the base is the smaller of two, the range is what the paper says of it, and C is told by the base alone.
 -- Assumes nothing.
+use Rattle.std.specs.Prelude.{Some, None}
 use mathlib.Core.Bool.{Bool, true, false, cond, ◌&&◌, ◌||◌, not}
 use mathlib.Core.List.{List, [], ◌∷◌}
 use mathlib.Core.Logic.{◌⊎◌, inl, inr, ◌↔◌}
@@ -18,7 +19,6 @@ use Rattle.definitions.specs.declared.Base.{Base}
 use Rattle.definitions.specs.declared.Range.{Range}
 use Rattle.definitions.specs.declared.MarketView.{MarketView}
 use Rattle.definitions.specs.declared.Order.{Order}
-use Rattle.definitions.specs.declared.DailyRange.TheVariants as daily
 use Rattle.definitions.specs.Codes.{main_board, limit}
 use Rattle.definitions.specs.State.{no_figures, header_of, security_at}
 use Rattle.definitions.specs.Sound.{sound_security, priced_as}
@@ -140,7 +140,7 @@ module _ {customers securities : ℕ} (w : List ℕ) (good : Good customers secu
     counted : s < (header_of w).securities
     counted = rw good.sized.counted below
 
-    pub range-given : has_range here ≡ true → daily_range w s ≡ daily.Given (range_of here.prior.close here.figures)
+    pub range-given : has_range here ≡ true → daily_range w s ≡ Some (range_of here.prior.close here.figures)
     unfolding daily_range
     range-given ranged = rw (fits w good, lt-ltb s (header_of w).securities counted, good.securities-sound s below, ranged)
 
@@ -154,13 +154,13 @@ module _ {customers securities : ℕ} (w : List ℕ) (good : Good customers secu
         → ((range_of here.prior.close here.figures).floor ≤ (range_of here.prior.close here.figures).ceiling) ↔ (NoneWithin (base_of here.prior.close here.figures) → ⊥)
     not-empty ranged = range-not-empty here (good.securities-sound s below) (has-close ranged)
 
-    pub range_none : has_range here ≡ false → daily_range w s ≡ daily.None
+    pub range_none : has_range here ≡ false → daily_range w s ≡ None
     unfolding daily_range
     range_none none = rw (fits w good, lt-ltb s (header_of w).securities counted, good.securities-sound s below, none)
 
     pub c-in-state : (o : Order) → priced_as o.order_type o.price ≡ true → rule_c (market_view_at w s) o ≡ rule_c_by_base (market_view_at w s) o
     c-in-state o = c-by-base (market_view_at w s) o (good.securities-sound s below)
 
-  pub range-beyond : (s : ℕ) → securities ≤ s → daily_range w s ≡ daily.None
+  pub range-beyond : (s : ℕ) → securities ≤ s → daily_range w s ≡ None
   unfolding daily_range
   range-beyond s past = rw (fits w good, le-ltb s (header_of w).securities (omega (arith, past, good.sized.counted)))

@@ -5,8 +5,8 @@ use mathlib.Core.List.{List, [], ◌∷◌, ◌++◌, map}
 use mathlib.Core.Path.{◌≡◌, refl}
 use Prim.Native.Nat.{ℕ, zero, suc, ◌+◌}
 use lib.ListN.{replicate, take}
-use Rattle.definitions.specs.declared.Answer.{Answer}
-use Rattle.definitions.specs.declared.Answer.TheVariants as answer
+use Rattle.definitions.specs.Answers.{Answer}
+use Rattle.definitions.specs.Answers as answer
 use Rattle.definitions.specs.declared.Verdict.TheVariants.{Accept, RejectS, RejectV, RejectW, RejectP}
 use Rattle.definitions.specs.State.{sizes_fit}
 use Rattle.definitions.specs.Gate as gate

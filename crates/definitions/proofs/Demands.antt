@@ -5,6 +5,7 @@
 -- in SessionRows.antt, `RestLimited` and `without_mp_rows` in RestRows.antt, `MpRow` in SoundRow.antt, warn 10 on a step and between two in AdjustedClose.antt, `Smaller`, `RangeInWords` and C by the
 -- base in CeilingFloor.antt, `IsCeiling` and `IsFloor` in RangeLaws.antt, `NoneWithin` in RangeEmpty.antt, what changes figures in FiguresSet.antt, and what an order does in two states that are alike for it in OneOrder.antt. That the code does what `outcome` says is the contract of `gate::handle`.
 -- Assumes nothing.
+use Rattle.std.specs.Prelude.{Some, None}
 use mathlib.Core.Bool.{Bool, true, not, false}
 use mathlib.Core.List.{List}
 use mathlib.Core.Logic.{◌↔◌, ◌⊎◌}
@@ -13,7 +14,6 @@ use Prim.Native.Nat.{ℕ, ◌+◌, ◌≤◌, ◌<◌}
 use Rattle.ladder.specs.Bands.{last_price, positions}
 use Rattle.ladder.specs.Ladder.{legal, price_at}
 use Rattle.definitions.specs.declared.Figures.{Figures}
-use Rattle.definitions.specs.declared.DailyRange.TheVariants as daily
 use Rattle.definitions.specs.declared.SecurityFigures.{SecurityFigures}
 use Rattle.definitions.specs.declared.Row.{Row}
 use Rattle.definitions.specs.declared.MarketView.{MarketView}
@@ -25,8 +25,8 @@ use Rattle.definitions.specs.declared.Counter.{Counter}
 use Rattle.definitions.specs.declared.Event.{Event}
 use Rattle.definitions.specs.declared.Event.TheVariants as event
 use Rattle.definitions.specs.declared.Verdict.{Verdict}
-use Rattle.definitions.specs.declared.Answer.{Answer}
-use Rattle.definitions.specs.declared.Answer.TheVariants as answer
+use Rattle.definitions.specs.Answers.{Answer}
+use Rattle.definitions.specs.Answers as answer
 use Rattle.definitions.specs.Codes.{open_mark, cancelled_mark, limit, mp, max_shares}
 use Rattle.definitions.specs.Lists.{any, all, keep, count, first_met}
 use Rattle.definitions.specs.State.{no_figures, header_of, sizes_fit, fresh, security_at, desk_at, put_security, put_desk, desk_words, state_fits}
@@ -256,13 +256,13 @@ module _ (customers securities : ℕ) (fit : sizes_fit customers securities ≡ 
 
   -- "securities that are not free and have a prior close" have a range, after every history, and no others
   pub range-given : (history : List (List ℕ)) (s : ℕ) → s < securities → has_range (security_at (after history) s) ≡ true
-      → daily_range (after history) s ≡ daily.Given (range_of (security_at (after history) s).prior.close (security_at (after history) s).figures)
+      → daily_range (after history) s ≡ Some (range_of (security_at (after history) s).prior.close (security_at (after history) s).figures)
   range-given history = ceiling_floor.range-given (after history) (well-formed history)
 
-  pub range_none : (history : List (List ℕ)) (s : ℕ) → s < securities → has_range (security_at (after history) s) ≡ false → daily_range (after history) s ≡ daily.None
+  pub range_none : (history : List (List ℕ)) (s : ℕ) → s < securities → has_range (security_at (after history) s) ≡ false → daily_range (after history) s ≡ None
   range_none history = ceiling_floor.range_none (after history) (well-formed history)
 
-  pub range-beyond : (history : List (List ℕ)) (s : ℕ) → securities ≤ s → daily_range (after history) s ≡ daily.None
+  pub range-beyond : (history : List (List ℕ)) (s : ℕ) → securities ≤ s → daily_range (after history) s ≡ None
   range-beyond history = ceiling_floor.range-beyond (after history) (well-formed history)
 
   -- "Ceiling is 130% of the base, down to a legal price and at most 10,000,000; floor is 70%, up to one; both are at least 1. With a prior close below 1.00 baht the

@@ -15,7 +15,7 @@ use Rattle.definitions.specs.declared.SecurityFigures.{SecurityFigures}
 use Rattle.definitions.specs.declared.BoardPrices.{BoardPrices}
 use Rattle.definitions.specs.declared.Event.{Event}
 use Rattle.definitions.specs.declared.Event.TheVariants as event
-use Rattle.definitions.specs.declared.Answer.TheVariants as answer
+use Rattle.definitions.specs.Answers as answer
 use Rattle.definitions.specs.Codes.{foreign_board, max_shares}
 use Rattle.definitions.specs.Lists.{first_met}
 use Rattle.definitions.specs.State.{no_figures, header_of, security_at, desk_at, put_security}

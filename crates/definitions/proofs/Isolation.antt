@@ -15,8 +15,8 @@ use Rattle.definitions.specs.declared.Row.{Row}
 use Rattle.definitions.specs.declared.Desk.{Desk}
 use Rattle.definitions.specs.declared.Order.{Order}
 use Rattle.definitions.specs.declared.Event.{Event}
-use Rattle.definitions.specs.declared.Answer.{Answer}
-use Rattle.definitions.specs.declared.Answer.TheVariants as answer
+use Rattle.definitions.specs.Answers.{Answer}
+use Rattle.definitions.specs.Answers as answer
 use Rattle.definitions.specs.Codes.{desk_rows}
 use Rattle.definitions.specs.Lists.{each, put, first_met}
 use Rattle.definitions.specs.State.{header_of, security_at, desk_at, put_security, put_desk, session_place}

@@ -3,8 +3,8 @@ use mathlib.Core.List.{List, [], ◌∷◌, map}
 use mathlib.Core.Path.{◌≡◌, refl}
 use Prim.Native.Nat.{ℕ}
 use lib.ListN.{replicate}
-use Rattle.definitions.specs.declared.Answer.{Answer}
-use Rattle.definitions.specs.declared.Answer.TheVariants as answer
+use Rattle.definitions.specs.Answers.{Answer}
+use Rattle.definitions.specs.Answers as answer
 use Rattle.definitions.specs.declared.Verdict.TheVariants as verdict
 use Rattle.definitions.specs.Answers.{ascii, decimal_in, answer_text}
 use Rattle.definitions.proofs.Bytes.{session, prices, order, cancel}

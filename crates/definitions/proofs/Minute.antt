@@ -13,8 +13,8 @@ use Rattle.definitions.specs.declared.Row.{Row}
 use Rattle.definitions.specs.declared.Desk.{Desk}
 use Rattle.definitions.specs.declared.Cancel.{Cancel}
 use Rattle.definitions.specs.declared.Event.TheVariants as event
-use Rattle.definitions.specs.declared.Answer.{Answer}
-use Rattle.definitions.specs.declared.Answer.TheVariants as answer
+use Rattle.definitions.specs.Answers.{Answer}
+use Rattle.definitions.specs.Answers as answer
 use Rattle.definitions.specs.Codes.{open_mark, cancelled_mark, limit, minute}
 use Rattle.definitions.specs.Lists.{keep, count}
 use Rattle.definitions.specs.State.{row, header_of, desk_at}

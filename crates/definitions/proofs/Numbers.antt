@@ -8,8 +8,8 @@ use native.Mathlib.Omega.{arith}
 use lib.Dec.{eqb}
 use borrow.Author.Tests.{ne_eqb}
 use Rattle.definitions.specs.declared.Verdict.TheVariants as verdict
-use Rattle.definitions.specs.declared.Answer.{Answer}
-use Rattle.definitions.specs.declared.Answer.TheVariants as answer
+use Rattle.definitions.specs.Answers.{Answer}
+use Rattle.definitions.specs.Answers as answer
 use Rattle.definitions.specs.Answers.{answer_number}
 use Rattle.definitions.specs.Gate.{conditions, event_answer}
 use Rattle.definitions.proofs.Refused.{refused, numbered-conditions}

@@ -8,7 +8,7 @@ use native.Mathlib.Omega.{arith}
 use lib.Dec.{eqb}
 use Rattle.definitions.specs.declared.Event.{Event}
 use Rattle.definitions.specs.declared.Event.TheVariants as event
-use Rattle.definitions.specs.declared.Answer.TheVariants as answer
+use Rattle.definitions.specs.Answers as answer
 use Rattle.definitions.specs.Lists.{all, first_met}
 use Rattle.definitions.specs.State.{header_of, state_fits}
 use Rattle.definitions.specs.Events.{event_in, bytes_conditions}

@@ -10,7 +10,7 @@ use borrow.Author.Tests.{eqb-true}
 use Rattle.definitions.specs.declared.Header.{Header}
 use Rattle.definitions.specs.declared.Desk.{Desk}
 use Rattle.definitions.specs.declared.Event.{Event}
-use Rattle.definitions.specs.declared.Answer.{Answer}
+use Rattle.definitions.specs.Answers.{Answer}
 use Rattle.definitions.specs.Lists.{first_met}
 use Rattle.definitions.specs.State.{header_of, desk_at}
 use Rattle.definitions.specs.Events.{event_in}

@@ -1,5 +1,6 @@
 -- Paper 02, 3: the floor is at most the ceiling but for one small stretch of bases, for which no legal price is within both.
 -- Assumes nothing.
+use Rattle.std.specs.Prelude.{Option, Some}
 use mathlib.Core.Bool.{Bool, true, false, ◌||◌}
 use mathlib.Core.Logic.{◌⊎◌, inl, inr, ⊎_elim, ◌↔◌}
 use mathlib.Core.Path.{◌≡◌, refl, ap, sym, ◌∙◌}
@@ -8,8 +9,7 @@ use native.Mathlib.Nat.{add-mul, eq-or-lt_of_le, le_refl, mul_assoc, mul-le-mul_
 use native.Mathlib.Omega.{arith}
 use lib.Dec.{leb, ltb, lit≤}
 use borrow.Author.Tests.{leb-true, ltb-true, ltb-false}
-use Rattle.ladder.specs.declared.Nearest.{Nearest}
-use Rattle.ladder.specs.declared.Nearest.TheVariants.{Positions}
+use Rattle.ladder.specs.declared.NearestPositions.{NearestPositions}
 use Rattle.ladder.specs.Bands.{last_price, positions}
 use Rattle.ladder.specs.Ladder.{band_of_position, band_of_price, last_band, legal, legal_up, nearest_in, nearest_to, price_at, upper_number}
 use Rattle.ladder.proofs.Laws.{legal-true, legal-within, lowest-on-step, price-last-band}
@@ -80,11 +80,11 @@ up-close q from last = go (legal q) refl
     go true on = omega (arith, (legal_prices.up_least q last).none-less q on (le_refl q))
     go false off =
         let n = nearest_in (band_of_price q) q in
-        let e : nearest_to q ≡ Positions n = nearest.answered q (omega (arith, from)) last in
+        let e : nearest_to q ≡ Some n = nearest.answered q (omega (arith, from)) last in
         let h = nearest.nearest-at q n e in
         let b = nearest.between q n e off in
         let there : 200 ≤ n.lower = h.none-nearer-below 200 (lit≤ tt) (omega (arith, at-200, from)) in
-        let found : legal_up q ≡ price_at (n.lower + 1) = legal_prices.up_at q (omega (arith, from)) last ∙ ap (λ (x : Nearest). price_at (upper_number x)) e ∙ ap price_at b.neighbours in
+        let found : legal_up q ≡ price_at (n.lower + 1) = legal_prices.up_at q (omega (arith, from)) last ∙ ap (λ (x : Option NearestPositions). price_at (upper_number x)) e ∙ ap price_at b.neighbours in
         omega (arith, found, neighbours n.lower there (omega (arith, b.neighbours, h.upper-there.to_last)), b.above)
 
 module _ (b : Base) (some : 0 < b.denominator) (least : 70 * b.numerator ≤ last_price * (100 * b.denominator)) where

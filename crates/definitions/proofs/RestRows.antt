@@ -18,7 +18,7 @@ use Rattle.definitions.specs.declared.Order.{Order}
 use Rattle.definitions.specs.declared.Rest.{Rest}
 use Rattle.definitions.specs.declared.Counter.{Counter}
 use Rattle.definitions.specs.declared.Event.TheVariants as event
-use Rattle.definitions.specs.declared.Answer.TheVariants as answer
+use Rattle.definitions.specs.Answers as answer
 use Rattle.definitions.specs.Codes.{open_mark, limit, mp, online}
 use Rattle.definitions.specs.Lists.{any, all, keep, count, first_met}
 use Rattle.definitions.specs.State.{row, header_of, desk_at, put_desk}

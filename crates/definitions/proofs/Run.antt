@@ -3,7 +3,7 @@ use mathlib.Core.Bool.{true}
 use mathlib.Core.List.{List, [], ◌∷◌}
 use Prim.Native.Nat.{ℕ}
 use Rattle.ladder.specs.Ladder.{legal, band_of_price, last_band, position_of, nearest_to, legal_down, least_of_last}
-use Rattle.definitions.specs.declared.Answer.{Answer}
+use Rattle.definitions.specs.Answers.{Answer}
 use Rattle.definitions.specs.Lists as lists
 use Rattle.definitions.specs.State as state
 use Rattle.definitions.specs.Sound as sound

@@ -15,7 +15,7 @@ use Rattle.definitions.specs.declared.Row.{Row}
 use Rattle.definitions.specs.declared.Desk.{Desk}
 use Rattle.definitions.specs.declared.Counter.{Counter}
 use Rattle.definitions.specs.declared.Event.TheVariants as event
-use Rattle.definitions.specs.declared.Answer.TheVariants as answer
+use Rattle.definitions.specs.Answers as answer
 use Rattle.definitions.specs.Codes.{open_mark, cancelled_mark, limit, ato, atc, mp}
 use Rattle.definitions.specs.Lists.{any, keep, count, each, first_met}
 use Rattle.definitions.specs.State.{header_of, security_at, desk_at}

@@ -12,7 +12,7 @@ use Rattle.definitions.specs.declared.Header.{Header}
 use Rattle.definitions.specs.declared.Row.{Row}
 use Rattle.definitions.specs.declared.Desk.{Desk}
 use Rattle.definitions.specs.declared.Order.{Order}
-use Rattle.definitions.specs.declared.Answer.{Answer}
+use Rattle.definitions.specs.Answers.{Answer}
 use Rattle.definitions.specs.Codes.{closed, pre_open, opened, break, pre_close, desk_rows, ato, atc, mp, is_auction}
 use Rattle.definitions.specs.Lists.{all, keep, count}
 use Rattle.definitions.specs.State.{header_of, desk_at}

@@ -1,15 +1,14 @@
 -- The gate: words and an event's bytes to an answer and words; a history's answers and words.
-use Rattle.std.specs.Prelude.{Bool, true, cond, ◌&&◌, not, List, [], ◌∷◌, ◌++◌, ℕ, ltb, eqb, length}
+use Rattle.std.specs.Prelude.{Bool, true, cond, ◌&&◌, not, List, [], ◌∷◌, ◌++◌, ℕ, ltb, eqb, length, Option, Some, None}
 use Rattle.definitions.specs.declared.Security.{Security}
-use Rattle.definitions.specs.declared.DailyRange.{DailyRange}
-use Rattle.definitions.specs.declared.DailyRange.TheVariants as daily
+use Rattle.definitions.specs.declared.Range.{Range}
 use Rattle.definitions.specs.declared.Desk.{Desk}
 use Rattle.definitions.specs.declared.MarketView.{MarketView}
 use Rattle.definitions.specs.declared.Order.{Order}
 use Rattle.definitions.specs.declared.Event.{Event}
 use Rattle.definitions.specs.declared.Verdict.{Verdict}
-use Rattle.definitions.specs.declared.Answer.{Answer}
-use Rattle.definitions.specs.declared.Answer.TheVariants as answer
+use Rattle.definitions.specs.Answers.{Answer}
+use Rattle.definitions.specs.Answers as answer
 use Rattle.definitions.specs.Lists.{all_below, each, put, first_met}
 use Rattle.definitions.specs.State.{header_of, security_at, desk_at, put_security, put_desk, state_fits, sizes_fit, state_size, fresh, clock_place, session_place}
 use Rattle.definitions.specs.Sound.{sound_security, sound_desk}
@@ -75,21 +74,21 @@ conditions w b =
     ∷ (bytes_conditions b ++ event_conditions (header_of w) ((8, not (records_sound w (event_in b))) ∷ []) (view_of w (event_in b)) (event_in b))
 
 -- paper 02, 3: the range of a security, for an order ticket; none also where the state, the security's number or its record would refuse an order for it
-unfoldable pub daily_range : List ℕ → ℕ → DailyRange
+unfoldable pub daily_range : List ℕ → ℕ → Option Range
 daily_range w s =
     cond
     (state_fits w && ltb s (header_of w).securities && sound_security_at w s && has_range (security_at w s))
-    (daily.Given (range_of (security_at w s).prior.close (security_at w s).figures))
-    daily.None
+    (Some (range_of (security_at w s).prior.close (security_at w s).figures))
+    None
 
 -- 0, the absent price, for none
-abbrev pub floor_number : DailyRange → ℕ
-floor_number (daily.Given r) = r.floor
-floor_number daily.None = 0
+abbrev pub floor_number : Option Range → ℕ
+floor_number (Some r) = r.floor
+floor_number None = 0
 
-abbrev pub ceiling_number : DailyRange → ℕ
-ceiling_number (daily.Given r) = r.ceiling
-ceiling_number daily.None = 0
+abbrev pub ceiling_number : Option Range → ℕ
+ceiling_number (Some r) = r.ceiling
+ceiling_number None = 0
 
 -- a record of a state, changed where it stands
 abbrev pub change_security : (Security → Security) → ℕ → List ℕ → List ℕ

@@ -11,7 +11,7 @@ pub mod Changes
 pub mod Ranges
 pub mod Rules
 pub mod Refusals
+pub mod Answers
 pub mod Gate
 pub mod Lone
 pub mod Walk
-pub mod Answers

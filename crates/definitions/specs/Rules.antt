@@ -1,7 +1,6 @@
 -- Paper 01, "Verdicts, first that applies".
-use Rattle.std.specs.Prelude.{Bool, false, cond, ◌&&◌, ◌||◌, not, List, [], ◌∷◌, ℕ, ◌+◌, ◌*◌, ◌%◌, leb, ltb, eqb}
-use Rattle.ladder.specs.declared.Nearest.{Nearest}
-use Rattle.ladder.specs.declared.Nearest.TheVariants as nearest
+use Rattle.std.specs.Prelude.{Bool, false, cond, ◌&&◌, ◌||◌, not, List, [], ◌∷◌, ℕ, ◌+◌, ◌*◌, ◌%◌, leb, ltb, eqb, Option, Some, None}
+use Rattle.ladder.specs.declared.NearestPositions.{NearestPositions}
 use Rattle.ladder.specs.Ladder.{position_of, position_number, nearest_to}
 use Rattle.definitions.specs.declared.Prices.{Prices}
 use Rattle.definitions.specs.declared.Security.{Security}
@@ -163,9 +162,9 @@ reference10 s = or_else s.main.projected (or_else s.main.last_sale s.prior.close
 
 -- "more than 10 ladder positions"; paper 02, 2, of a reference between two steps: "Warn 10 counts up from the lower and down from the upper position";
 -- "none, no check"
-abbrev pub ten_apart : Nearest → ℕ → Bool
-ten_apart (nearest.Positions n) k = ltb (n.lower + 10) k || ltb (k + 10) n.upper
-ten_apart nearest.None k = false
+abbrev pub ten_apart : Option NearestPositions → ℕ → Bool
+ten_apart (Some n) k = ltb (n.lower + 10) k || ltb (k + 10) n.upper
+ten_apart None k = false
 
 -- "limits, main board, sessions 1 and 4, online and DMA"
 abbrev pub covered_by10 : ℕ → Order → Bool

@@ -1,5 +1,8 @@
-// The records, events and answers of papers 01 and 02, as the code has them. What they mean stands in specs/. No code.
+// The records, events and answers of papers 01 and 02, as the code has them. What they mean stands in specs/.
 #![tactic(auto)]
+
+ghost use Rattle.std.specs.Prelude.{◌≡◌};
+ghost use Rattle.definitions.specs.Answers.{refusal_number};
 
 pub mod codes;
 
@@ -38,7 +41,7 @@ pub struct Prices {
 }
 
 // Paper 02, 3: what a dividend and a right to new shares take from the prior close; all zero without figures.
-#[derive(Clone, Copy)]
+#[derive(Clone, Copy, Default)]
 pub struct Figures {
     pub dividend: u32,
     pub subscription: u32,
@@ -68,15 +71,8 @@ pub struct Range {
     pub ceiling: u32,
 }
 
-// What a caller is given of a security's range.
-#[derive(Clone, Copy)]
-pub enum DailyRange {
-    Given(Range),
-    None,
-}
-
 // `order_type` is the paper's type of an order: `type` is a keyword.
-#[derive(Clone, Copy)]
+#[derive(Clone, Copy, Default)]
 pub struct Row {
     pub mark: u32,
     pub number: u32,
@@ -171,13 +167,6 @@ pub enum Event {
     Figures(SecurityFigures),
 }
 
-// What reading an event's bytes gives: the event, or the number of the refusal.
-#[derive(Clone, Copy)]
-pub enum Reading {
-    Whole(Event),
-    Refused(u32),
-}
-
 // Paper 01, "Verdicts": the letter of a reject is the rule that applies.
 #[derive(Clone, Copy)]
 pub enum Verdict {
@@ -193,16 +182,39 @@ pub enum Verdict {
 }
 
 // What a verdict counts as: the counter that it adds 1 to.
-#[derive(Clone, Copy)]
+#[derive(Clone, Copy, PartialEq, Eq)]
 pub enum Counter {
     Accepted,
     Warned,
     Rejected,
 }
 
-#[derive(Clone, Copy)]
-pub enum Answer {
-    Ok,
-    Verdict(Verdict),
-    Refused(u32),
+// Paper 01, "Where an event is turned back": what is wrong, each condition once, in the order of their numbers.
+#[derive(Clone, Copy, Debug, PartialEq, Eq)]
+pub enum Refusal {
+    State,
+    Length,
+    Kind,
+    Name,
+    Code,
+    Price,
+    Time,
+    Record,
+    NumberTaken,
+    NoOpenRow,
+    Volume,
+    FullDesk,
+    Figures,
 }
+
+impl Refusal {
+    // "An answer may be an enum. If so, a definition gives this paper's number".
+    pub fn number(self) -> u32
+        ensures { result ≡ refusal_number self }
+    {
+        self as u32 + 1
+    }
+}
+
+// An order's answer has its verdict; that of another event, the paper's `ok`, has none.
+pub type Answer = Result<Option<Verdict>, Refusal>;

@@ -9,7 +9,7 @@ use denote.Triple.Clauses.{AtExit}
 use borrow.Fn.Kinds.{Dens, ended_of}
 use Rattle.definitions.specs.declared.Order.{Order}
 use Rattle.definitions.specs.declared.Event.TheVariants as event
-use Rattle.definitions.specs.declared.Answer.{Answer}
+use Rattle.definitions.specs.Answers.{Answer}
 use Rattle.definitions.specs.Events.{event_in}
 use Rattle.definitions.specs.Gate.{event_answer, event_words}
 use Rattle.definitions.proofs.OneOrder.{AlikeFor, OnlyItsDesk}

@@ -5,8 +5,8 @@ use mathlib.Core.Path.{◌≡◌, ap, sym, ◌∙◌}
 use Prim.Native.Nat.{ℕ}
 use Rattle.definitions.specs.declared.Security.{Security}
 use Rattle.definitions.specs.declared.Event.{Event}
-use Rattle.definitions.specs.declared.Answer.{Answer}
-use Rattle.definitions.specs.declared.Answer.TheVariants as answer
+use Rattle.definitions.specs.Answers.{Answer}
+use Rattle.definitions.specs.Answers as answer
 use Rattle.definitions.specs.State.{security_at, put_security}
 use Rattle.definitions.specs.Gate.{done, result_of, change_security, perform}
 use Rattle.kind_contract.specs.First.{later_refusal, later_outcome}

@@ -7,8 +7,8 @@ use Prim.Native.Nat.{ℕ, ◌≤◌, ◌+◌}
 use lib.Dec.{eqb}
 use borrow.Author.Tests.{leb-false, not-false}
 use Rattle.definitions.specs.declared.Event.{Event}
-use Rattle.definitions.specs.declared.Answer.{Answer}
-use Rattle.definitions.specs.declared.Answer.TheVariants as answer
+use Rattle.definitions.specs.Answers.{Answer}
+use Rattle.definitions.specs.Answers as answer
 use Rattle.definitions.specs.Lists.{first_met}
 use Rattle.definitions.specs.State.{header_of, header_size, security_size, desk_size, security_place, desk_place, desk_at}
 use Rattle.definitions.specs.Changes.{Named, one, customer_named, security_named}

@@ -17,7 +17,7 @@ use Rattle.definitions.specs.declared.Order.{Order}
 use Rattle.definitions.specs.declared.Event.{Event}
 use Rattle.definitions.specs.declared.Event.TheVariants as event
 use Rattle.definitions.specs.declared.Verdict.{Verdict}
-use Rattle.definitions.specs.declared.Answer.TheVariants as answer
+use Rattle.definitions.specs.Answers as answer
 use Rattle.definitions.specs.Codes.{desk_rows}
 use Rattle.definitions.specs.Lists.{any, count, first_met}
 use Rattle.definitions.specs.State.{header_of, security_at, desk_at, put_desk}

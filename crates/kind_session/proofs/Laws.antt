@@ -12,7 +12,7 @@ use lib.Seq.{set_split}
 use borrow.Author.Tests.{eq-eqb, ne_eqb}
 use Rattle.definitions.specs.declared.Header.{Header}
 use Rattle.definitions.specs.declared.Event.TheVariants as event
-use Rattle.definitions.specs.declared.Answer.TheVariants as answer
+use Rattle.definitions.specs.Answers as answer
 use Rattle.definitions.specs.Lists.{each, put}
 use Rattle.definitions.specs.State.{security_size, desk_size, session_place, security_place, desk_place, state_size, header_of, state_fits}
 use Rattle.definitions.specs.Desks.{changed, session_row}

@@ -1,5 +1,6 @@
 -- The laws of the ladder that later proofs cite. The table of bands is a chain, and each law is one of every chain.
 -- Assumes nothing.
+use Rattle.std.specs.Prelude.{Some, None}
 use mathlib.Core.Bool.{Bool, true, false, cond, ◌&&◌, and-eq-true_iff}
 use mathlib.Core.List.{◌∷◌}
 use mathlib.Core.Logic.{⊎_elim}
@@ -11,7 +12,6 @@ use lib.Dec.{leb, ltb, lit≤}
 use lib.ListN.{length, get_or, drop}
 use borrow.Author.Tests.{leb-true, le-leb, lt-leb, ltb-true, ltb-false, lt-ltb, le-ltb, eq-eqb}
 use Rattle.ladder.specs.declared.Band.{Band}
-use Rattle.ladder.specs.declared.Position.TheVariants.{At, Off}
 use Rattle.ladder.specs.Bands.{lowest, higher, first_price, last_price, positions}
 use Rattle.ladder.specs.Ladder.{last_band, band_of_price, band_of_position, on_step, position_in, price_in, legal, position_of, position_number, price_at}
 use Rattle.ladder.proofs.Step as step
@@ -131,10 +131,10 @@ step-legal k one last = record { above = step-first k one; below = step-to-last 
 pub legal-price : (k : ℕ) → 1 ≤ k → k ≤ positions → legal (price_at k) ≡ true
 legal-price k one last = rw (price-at k one last) (true-legal (step_price k) (step-legal k one last))
 
-pub position-of-price : (k : ℕ) → 1 ≤ k → k ≤ positions → position_of (price_at k) ≡ At k
+pub position-of-price : (k : ℕ) → 1 ≤ k → k ≤ positions → position_of (price_at k) ≡ Some k
 unfolding position_of
 position-of-price k one last =
-    rw (legal-price k one last, price-at k one last) (ap At (step-position k one))
+    rw (legal-price k one last, price-at k one last) (ap Some (step-position k one))
 
 pub price-none-below : (k : ℕ) → k < 1 → price_at k ≡ 0
 unfolding price_at
@@ -157,7 +157,7 @@ pub record Has (p k : ℕ) : Type 0 where
   pub to_last : k ≤ positions
   pub price : price_at k ≡ p
 
-at-means : (t : Bool) (n k : ℕ) → cond t (At n) Off ≡ At k → (t ≡ true) × (n ≡ k)
+at-means : (t : Bool) (n k : ℕ) → cond t (Some n) None ≡ Some k → (t ≡ true) × (n ≡ k)
 at-means true n k e = (refl, cc)
 at-means false n k e = let no_such : ◌≡◌ {A = ℕ} 0 1 = cc in absurd (omega arith)
 
@@ -207,15 +207,15 @@ legal-has p h =
     let there = lower p h.above h.below in
     record { legal = h; from_first = there.from_first; to_last = there.to_last; price = price-at _ there.from_first there.to_last ∙ legal-step p h }
 
-pub legal-position : (p : ℕ) {b : Band} → b ≡ band_of_price p → legal p ≡ true → At (position_in b p) ≡ position_of p
+pub legal-position : (p : ℕ) {b : Band} → b ≡ band_of_price p → legal p ≡ true → Some (position_in b p) ≡ position_of p
 unfolding position_of
 legal-position p e t = rw (t, e)
 
-pub off-ladder : (p : ℕ) → legal p ≡ false → position_of p ≡ Off
+pub off-ladder : (p : ℕ) → legal p ≡ false → position_of p ≡ None
 unfolding position_of
 off-ladder p t = rw t
 
-pub position_at : (p k : ℕ) → position_of p ≡ At k → Has p k
+pub position_at : (p k : ℕ) → position_of p ≡ Some k → Has p k
 unfolding position_of
 position_at p k e =
     let parts = at-means (legal p) (position_in (band_of_price p) p) k e in
@@ -243,17 +243,17 @@ price-less j k last last-k = go (ltb j k) refl
         let never : ¬ (price_at j < price_at k) = λ less. omega (arith, price-order j k last less, ltb-false j k e) in
         le-ltb (price_at j) (price_at k) (omega arith) ∙ sym e
 
-pub position-grows : (p q j k : ℕ) → position_of p ≡ At j → position_of q ≡ At k → p < q → j < k
+pub position-grows : (p q j k : ℕ) → position_of p ≡ Some j → position_of q ≡ Some k → p < q → j < k
 position-grows p q j k ep eq less =
     let hp = position_at p j ep in
     let hq = position_at q k eq in
     price-order j k hp.to_last (omega (arith, hp.price, hq.price))
 
-pub off-between : (k p : ℕ) → 1 ≤ k → k < positions → price_at k < p → p < price_at (k + 1) → position_of p ≡ Off
+pub off-between : (k p : ℕ) → 1 ≤ k → k < positions → price_at k < p → p < price_at (k + 1) → position_of p ≡ None
 unfolding position_of
 off-between k p one last above below = go (legal p) refl
   where
-    go : (t : Bool) → legal p ≡ t → cond (legal p) (At (position_in (band_of_price p) p)) Off ≡ Off
+    go : (t : Bool) → legal p ≡ t → cond (legal p) (Some (position_in (band_of_price p) p)) None ≡ None
     go true e =
         let h = legal-has p (legal-true p e) in
         let more = price-order k (position_in (band_of_price p) p) (omega arith) (omega (arith, h.price)) in

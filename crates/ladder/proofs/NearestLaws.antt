@@ -1,5 +1,6 @@
 -- Paper 02, 2: the laws of the nearest positions. No other answer meets them (`one_answer`).
 -- Assumes nothing.
+use Rattle.std.specs.Prelude.{Some, None}
 use mathlib.Core.Bool.{Bool, true, false, cond, true≢false, and-eq-true_iff}
 use mathlib.Core.Logic.{◌↔◌, ⊎_elim}
 use mathlib.Core.Path.{◌≡◌, refl, ap, subst, sym, ◌∙◌}
@@ -10,8 +11,6 @@ use lib.Dec.{leb}
 use borrow.Author.Tests.{leb-true, le-leb, lt-leb, eq-eqb, ne_eqb}
 use Rattle.ladder.specs.declared.Band.{Band}
 use Rattle.ladder.specs.declared.NearestPositions.{NearestPositions}
-use Rattle.ladder.specs.declared.Nearest.TheVariants.{Positions, None}
-use Rattle.ladder.specs.declared.Position.TheVariants.{At}
 use Rattle.ladder.specs.Bands.{first_price, last_price, positions}
 use Rattle.ladder.specs.Ladder.{band_of_price, is_price, legal, lower_number, nearest_in, nearest_to, on_step, position_in, position_of, price_at, upper_number}
 use Rattle.ladder.proofs.Laws.{Lower, lower, last-price, legal-price, legal-true, legal-has, legal-within, legal-position, price-grows, price-order}
@@ -116,11 +115,11 @@ record Given (p : ℕ) (n : NearestPositions) : Type 0 where
   last : p ≤ last_price
   is : nearest_in (band_of_price p) p ≡ n
 
-positions-mean : (t : Bool) (x n : NearestPositions) → cond t (Positions x) None ≡ Positions n → (t ≡ true) × (x ≡ n)
+positions-mean : (t : Bool) (x n : NearestPositions) → cond t (Some x) None ≡ Some n → (t ≡ true) × (x ≡ n)
 positions-mean true x n e = (refl, cc)
 positions-mean false x n e = let no_such : ◌≡◌ {A = ℕ} 0 1 = cc in absurd (omega arith)
 
-given : (p : ℕ) (n : NearestPositions) → nearest_to p ≡ Positions n → Given p n
+given : (p : ℕ) (n : NearestPositions) → nearest_to p ≡ Some n → Given p n
 unfolding nearest_to
 given p n e =
     let parts = positions-mean (is_price p) (nearest_in (band_of_price p) p) n e in
@@ -128,7 +127,7 @@ given p n e =
     record { first = leb-true first_price p ends.0; last = leb-true p last_price ends.1; is = parts.1 }
 
 -- "for each price from 1 to 10,000,000"
-pub answered : (p : ℕ) → first_price ≤ p → p ≤ last_price → nearest_to p ≡ Positions (nearest_in (band_of_price p) p)
+pub answered : (p : ℕ) → first_price ≤ p → p ≤ last_price → nearest_to p ≡ Some (nearest_in (band_of_price p) p)
 unfolding nearest_to
 answered p first last = rw (is-price p first last)
 
@@ -141,7 +140,7 @@ pub none_above : (p : ℕ) → last_price < p → nearest_to p ≡ None
 unfolding nearest_to
 none_above p h = rw (le-leb first_price p (omega arith), lt-leb p last_price h)
 
-pub nearest-at : (p : ℕ) (n : NearestPositions) → nearest_to p ≡ Positions n → NearestAt p n
+pub nearest-at : (p : ℕ) (n : NearestPositions) → nearest_to p ≡ Some n → NearestAt p n
 nearest-at p n e =
     let g = given p n e in
     subst (NearestAt p) g.is (found p g.first g.last (on_step (band_of_price p) p) refl)
@@ -162,22 +161,22 @@ one_answer p m n hm hn i = record { lower = lower-same i; upper = upper-same i; 
         omega arith
 
 -- a legal price has one position, and that is both
-pub at_position : (p : ℕ) (n : NearestPositions) → nearest_to p ≡ Positions n → legal p ≡ true → position_of p ≡ At n.lower
-at_position p n e t = sym (legal-position p refl t) ∙ ap (λ (m : NearestPositions). At m.lower) (given p n e).is
+pub at_position : (p : ℕ) (n : NearestPositions) → nearest_to p ≡ Some n → legal p ≡ true → position_of p ≡ Some n.lower
+at_position p n e t = sym (legal-position p refl t) ∙ ap (λ (m : NearestPositions). Some m.lower) (given p n e).is
 
-pub both_equal : (p : ℕ) (n : NearestPositions) → nearest_to p ≡ Positions n → legal p ≡ true → n.lower ≡ n.upper
+pub both_equal : (p : ℕ) (n : NearestPositions) → nearest_to p ≡ Some n → legal p ≡ true → n.lower ≡ n.upper
 both_equal p n e t =
     let g = given p n e in
     subst (λ (m : NearestPositions). m.lower ≡ m.upper) g.is (on-steps p g.first g.last (legal-within p g.first g.last ∙ t))
 
 -- any other price lies strictly between the prices of two neighbours
-pub between : (p : ℕ) (n : NearestPositions) → nearest_to p ≡ Positions n → legal p ≡ false → Between p n
+pub between : (p : ℕ) (n : NearestPositions) → nearest_to p ≡ Some n → legal p ≡ false → Between p n
 between p n e t =
     let g = given p n e in
     subst (Between p) g.is (off-steps p g.first g.last (legal-within p g.first g.last ∙ t))
 
 -- so that the two are equal exactly where the price is legal
-pub equal-where-legal : (p : ℕ) (n : NearestPositions) → nearest_to p ≡ Positions n → (n.lower ≡ n.upper) ↔ (legal p ≡ true)
+pub equal-where-legal : (p : ℕ) (n : NearestPositions) → nearest_to p ≡ Some n → (n.lower ≡ n.upper) ↔ (legal p ≡ true)
 equal-where-legal p n e = (λ same. go same (legal p) refl, both_equal p n e)
   where
     go : n.lower ≡ n.upper → (t : Bool) → legal p ≡ t → legal p ≡ true
@@ -186,8 +185,8 @@ equal-where-legal p n e = (λ same. go same (legal p) refl, both_equal p n e)
 
 -- and the other way round: between the prices of two neighbours these are the answer
 pub lies-between : (p j : ℕ) → 1 ≤ j → j < positions → price_at j < p → p < price_at (j + 1)
-    → nearest_to p ≡ Positions (record { lower = j; upper = j + 1; legal = false })
-lies-between p j one before above below = e ∙ ap Positions (λ i. record { lower = lower-is i; upper = upper_is i; legal = legal-is i })
+    → nearest_to p ≡ Some (record { lower = j; upper = j + 1; legal = false })
+lies-between p j one before above below = e ∙ ap Some (λ i. record { lower = lower-is i; upper = upper_is i; legal = legal-is i })
   where
     to_last : p ≤ last_price
     to_last = omega (arith, (legal-true (price_at (j + 1)) (legal-price (j + 1) (omega arith) (omega arith))).below)
@@ -195,7 +194,7 @@ lies-between p j one before above below = e ∙ ap Positions (λ i. record { low
     n : NearestPositions
     n = nearest_in (band_of_price p) p
 
-    e : nearest_to p ≡ Positions n
+    e : nearest_to p ≡ Some n
     e = answered p (omega arith) to_last
 
     h : NearestAt p n
@@ -225,7 +224,7 @@ pub numbers-nearest : (p : ℕ) → first_price ≤ p → p ≤ last_price
     → NearestAt p (record { lower = lower_number (nearest_to p); upper = upper_number (nearest_to p); legal = legal p })
 numbers-nearest p first last =
     let n = nearest_in (band_of_price p) p in
-    let e : nearest_to p ≡ Positions n = answered p first last in
+    let e : nearest_to p ≡ Some n = answered p first last in
     let h = nearest-at p n e in
     rw e (subst (λ (t : Bool). NearestAt p (record { lower = n.lower; upper = n.upper; legal = t })) h.legal h)
 
@@ -234,9 +233,9 @@ numbers-none p e = (rw e, rw e)
 
 -- the answer by the band of the price and what is left over its steps, as the code finds it
 pub on-step-nearest : (p : ℕ) {b : Band} → b ≡ band_of_price p → first_price ≤ p → p ≤ last_price → (p - b.from) % b.step ≡ 0
-    → Positions (record { lower = position_in b p; upper = position_in b p; legal = true }) ≡ nearest_to p
+    → Some (record { lower = position_in b p; upper = position_in b p; legal = true }) ≡ nearest_to p
 on-step-nearest p e first last none = rw (answered p first last, ← e, eq-eqb _ 0 none)
 
 pub off-step-nearest : (p : ℕ) {b : Band} → b ≡ band_of_price p → first_price ≤ p → p ≤ last_price → ¬ ((p - b.from) % b.step ≡ 0)
-    → Positions (record { lower = position_in b p; upper = position_in b p + 1; legal = false }) ≡ nearest_to p
+    → Some (record { lower = position_in b p; upper = position_in b p + 1; legal = false }) ≡ nearest_to p
 off-step-nearest p e first last some = rw (answered p first last, ← e, ne_eqb _ 0 some)

@@ -1,11 +1,7 @@
 -- Paper 01, "Prices and the ladder": what the table of bands says of a price and of a position.
-use Rattle.std.specs.Prelude.{Bool, cond, ◌&&◌, List, [], ◌∷◌, ◌≡◌, ℕ, zero, suc, ◌+◌, ◌-◌, ◌*◌, ◌/◌, ◌%◌, ◌≤◌, leb, eqb, get_or}
+use Rattle.std.specs.Prelude.{Bool, cond, ◌&&◌, List, [], ◌∷◌, ◌≡◌, ℕ, zero, suc, ◌+◌, ◌-◌, ◌*◌, ◌/◌, ◌%◌, ◌≤◌, leb, eqb, get_or, Option, Some, None}
 use Rattle.ladder.specs.declared.Band.{Band}
-use Rattle.ladder.specs.declared.Position.{Position}
-use Rattle.ladder.specs.declared.Position.TheVariants.{At, Off}
 use Rattle.ladder.specs.declared.NearestPositions.{NearestPositions}
-use Rattle.ladder.specs.declared.Nearest.{Nearest}
-use Rattle.ladder.specs.declared.Nearest.TheVariants.{Positions, None}
 use Rattle.ladder.specs.Bands.{lowest, higher, first_price, last_price, positions}
 
 -- the last of the bands, b first, whose key is at most n
@@ -36,13 +32,13 @@ is_price p = leb first_price p && leb p last_price
 unfoldable pub legal : ℕ → Bool
 legal p = is_price p && on_step (band_of_price p) p
 
-unfoldable pub position_of : ℕ → Position
-position_of p = cond (legal p) (At (position_in (band_of_price p) p)) Off
+unfoldable pub position_of : ℕ → Option ℕ
+position_of p = cond (legal p) (Some (position_in (band_of_price p) p)) None
 
 -- 0, which is no position, for a price off the ladder
-abbrev pub position_number : Position → ℕ
-position_number (At k) = k
-position_number Off = 0
+abbrev pub position_number : Option ℕ → ℕ
+position_number (Some k) = k
+position_number None = 0
 
 -- Paper 02, 2: "the nearest position at or below, the nearest at or above, and whether the price is legal". On a step of its band both are the price's
 -- position; off it the upper one is the next.
@@ -51,16 +47,16 @@ nearest_in b p =
     record { lower = position_in b p; upper = cond (on_step b p) (position_in b p) (position_in b p + 1); legal = on_step b p }
 
 -- "for each price from 1 to 10,000,000 ..; for others, none"
-unfoldable pub nearest_to : ℕ → Nearest
-nearest_to p = cond (is_price p) (Positions (nearest_in (band_of_price p) p)) None
+unfoldable pub nearest_to : ℕ → Option NearestPositions
+nearest_to p = cond (is_price p) (Some (nearest_in (band_of_price p) p)) None
 
 -- 0, which is no position, for none
-abbrev pub lower_number : Nearest → ℕ
-lower_number (Positions n) = n.lower
+abbrev pub lower_number : Option NearestPositions → ℕ
+lower_number (Some n) = n.lower
 lower_number None = 0
 
-abbrev pub upper_number : Nearest → ℕ
-upper_number (Positions n) = n.upper
+abbrev pub upper_number : Option NearestPositions → ℕ
+upper_number (Some n) = n.upper
 upper_number None = 0
 
 -- 0, the absent price, for a number that is no position

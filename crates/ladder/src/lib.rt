@@ -17,25 +17,12 @@ pub struct Band {
     pub first: u32,
 }
 
-#[derive(Clone, Copy)]
-pub enum Position {
-    At(u32),
-    Off,
-}
-
 // Paper 02, 2: "the nearest position at or below, the nearest at or above, and whether the price is legal".
 #[derive(Clone, Copy)]
 pub struct NearestPositions {
     pub lower: u32,
     pub upper: u32,
     pub legal: bool,
-}
-
-// "for others, none"
-#[derive(Clone, Copy)]
-pub enum Nearest {
-    Positions(NearestPositions),
-    None,
 }
 
 // The prices at two positions.
@@ -67,47 +54,44 @@ impl Ladder {
         on_step(price)
     }
 
-    pub fn position(price: u32) -> Position
+    pub fn position(price: u32) -> Option<u32>
         ensures { result ≡ position_of price }
     {
         if !Ladder::legal(price) {
-            return Position::Off;
+            return None;
         }
         let band = band_of(price);
-        Position::At(band.first + (price - band.from) / band.step)
+        Some(band.first + (price - band.from) / band.step)
     }
 
     // 0, which is no position, for a price off the ladder.
-    pub fn position_number(p: Position) -> u32
+    pub fn position_number(p: Option<u32>) -> u32
         ensures { result ≡ position_number p }
     {
-        match p {
-            Position::At(k) => k,
-            Position::Off => 0,
-        }
+        p.unwrap_or(0)
     }
 
-    // Between two steps the position follows by the price's own band, as on a step: the table of prices is not searched.
-    pub fn nearest(price: u32) -> Nearest
+    // "for others, none". Between two steps the position follows by the price's own band, as on a step: the table of prices is not searched.
+    pub fn nearest(price: u32) -> Option<NearestPositions>
         ensures { result ≡ nearest_to price }
     {
         if price < Ladder::FIRST_PRICE {
-            return Nearest::None;
+            return None;
         }
         if Ladder::LAST_PRICE < price {
-            return Nearest::None;
+            return None;
         }
         let band = band_of(price);
         let above = price - band.from;
         let lower = band.first + above / band.step;
         if above % band.step == 0 {
-            return Nearest::Positions(NearestPositions {
+            return Some(NearestPositions {
                 lower,
                 upper: lower,
                 legal: true,
             });
         }
-        Nearest::Positions(NearestPositions {
+        Some(NearestPositions {
             lower,
             upper: lower + 1,
             legal: false,
@@ -115,22 +99,16 @@ impl Ladder {
     }
 
     // 0, which is no position, for none.
-    pub fn lower_number(n: Nearest) -> u32
+    pub fn lower_number(n: Option<NearestPositions>) -> u32
         ensures { result ≡ lower_number n }
     {
-        match n {
-            Nearest::Positions(positions) => positions.lower,
-            Nearest::None => 0,
-        }
+        n.map_or(0, |positions| positions.lower)
     }
 
-    pub fn upper_number(n: Nearest) -> u32
+    pub fn upper_number(n: Option<NearestPositions>) -> u32
         ensures { result ≡ upper_number n }
     {
-        match n {
-            Nearest::Positions(positions) => positions.upper,
-            Nearest::None => 0,
-        }
+        n.map_or(0, |positions| positions.upper)
     }
 
     // 0, the absent price, for a number that is no position.
@@ -184,13 +162,7 @@ fn tabled(table: &[u16; 1300], position: u32) -> u32
     if 1300 < position {
         return stepped(position);
     }
-    wide(table[(position - 1) as usize])
-}
-
-fn wide(price: u16) -> u32
-    ensures { result ≡ price }
-{
-    price as u32
+    u32::from(table[(position - 1) as usize])
 }
 
 // "Above 400.00 positions follow by the step; the last is 51,100."

@@ -11,7 +11,7 @@ use lib.Dec.{eqb}
 use borrow.Author.Tests.{eqb-true}
 use Rattle.definitions.specs.declared.Row.{Row}
 use Rattle.definitions.specs.declared.Event.{Event}
-use Rattle.definitions.specs.declared.Answer.TheVariants as answer
+use Rattle.definitions.specs.Answers as answer
 use Rattle.definitions.specs.Codes.{desk_rows, open_mark}
 use Rattle.definitions.specs.Lists.{any}
 use Rattle.definitions.specs.State.{desk_at, put_desk}

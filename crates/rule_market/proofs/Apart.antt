@@ -1,5 +1,6 @@
 -- More than ten positions apart, told by prices: the ladder's prices stand in the order of their positions.
 -- Assumes nothing.
+use Rattle.std.specs.Prelude.{Option, Some, None}
 use mathlib.Core.Bool.{Bool, true, false, ◌||◌}
 use mathlib.Core.Path.{◌≡◌, refl, sym, ◌∙◌}
 use Prim.Native.Nat.{ℕ, ◌+◌, ◌-◌, ◌≤◌, ◌<◌, min}
@@ -7,7 +8,6 @@ use native.Mathlib.Omega.{arith}
 use lib.Dec.{ltb}
 use borrow.Author.Tests.{ltb-true, ltb-false, lt-ltb, le-ltb}
 use Rattle.ladder.specs.declared.NearestPositions.{NearestPositions}
-use Rattle.ladder.specs.declared.Nearest.TheVariants.{Positions, None}
 use Rattle.ladder.specs.Bands.{positions}
 use Rattle.ladder.specs.Ladder.{nearest_to, price_at}
 use Rattle.ladder.proofs.Laws.{price-less}
@@ -36,6 +36,6 @@ pub none_apart : (reference k : ℕ) → nearest_to reference ≡ None → false
 none_apart reference k e = rw e
 
 -- "counts up from the lower and down from the upper position"
-pub by-price : (reference k : ℕ) {n : NearestPositions} → nearest_to reference ≡ Positions n → k ≤ positions
+pub by-price : (reference k : ℕ) {n : NearestPositions} → nearest_to reference ≡ Some n → k ≤ positions
     → (ltb (price_at (min (n.lower + 10) positions)) (price_at k) || ltb (price_at k) (price_at (n.upper - 10))) ≡ ten_apart (nearest_to reference) k
 by-price reference k {n} e last = rw (e, above n.lower k last, below n.upper k (nearest-at reference n e).upper-there.to_last last)

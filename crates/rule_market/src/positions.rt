@@ -6,7 +6,7 @@ ghost use Rattle.definitions.specs.Rules.{covered_by10, ten_apart, warn10};
 
 use definitions::codes::{DMA, LIMIT, MAIN_BOARD, ONLINE};
 use definitions::{MarketView, Order};
-use ladder::{Ladder, Nearest};
+use ladder::Ladder;
 use rule_references::{in_auction, reference_10};
 
 // 0, which is no position, where the ladder begins less than ten below.
@@ -44,8 +44,7 @@ fn on_ladder(price: u32) -> u32
 fn ten_apart(reference: u32, price: u32) -> bool
     ensures { result ≡ ten_apart (nearest_to reference) (position_number (position_of price)) }
 {
-    let near = Ladder::nearest(reference);
-    let Nearest::Positions(from) = near else {
+    let Some(from) = Ladder::nearest(reference) else {
         return false;
     };
     let range = Ladder::prices(ten_down(from.upper), ten_up(from.lower));

@@ -3,7 +3,7 @@ use mathlib.Core.Path.{refl}
 use native.Mathlib.Omega.{arith}
 use lib.Seq.{set_split}
 use Rattle.definitions.specs.declared.Event.TheVariants as event
-use Rattle.definitions.specs.declared.Answer.TheVariants as answer
+use Rattle.definitions.specs.Answers as answer
 use Rattle.definitions.specs.Lists.{put}
 use Rattle.definitions.specs.State.{clock_place}
 use Rattle.definitions.specs.Gate.{perform}

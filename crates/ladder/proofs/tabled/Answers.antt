@@ -8,7 +8,7 @@ pub returns-then-position-lt1 : goal.returns-then-position-lt1
 returns-then-position-lt1 c = sym (price-none-below _ c.if-position-lt1.true)
 
 pub returns : goal.returns
-returns c = c.wide.ensures ∙ c.requires.at _ (omega arith) (omega arith)
+returns c = c.from.ensures ∙ c.requires.at _ (omega arith) (omega arith)
 
 pub returns-then-position-gt1300 : goal.returns-then-position-gt1300
 returns-then-position-gt1300 c = c.stepped.ensures
