@@ -3,120 +3,118 @@
 
 ghost use Rattle.std.specs.Prelude.{true, cond, ◌≡◌};
 ghost use Rattle.definitions.specs.State.{state_fits};
+ghost use Rattle.definitions.specs.Answers.{refusal_number, refused_number};
 ghost use Rattle.definitions.specs.Refusals.{bad_code};
 ghost use Rattle.kind_contract.specs.First.{first_refusal};
 
 use definitions::codes::{DMA, FOREIGN_BOARD, LAST_TIME, MP, PRE_CLOSE, SELL};
-use definitions::{Event, Order};
+use definitions::{Event, Order, Refusal};
 use ladder::Ladder;
 use securities::{sound_prices, sound_prior, sound_terms};
 use state_soundness::{all_sound, priced_as, sound_desk_at, sound_security_at};
 
-// The number of the first condition that is met; 0 where none is. No record is read before the event's own fields have passed. One match, and a return at
+// The first condition that is met refuses the event. No record is read before the event's own fields have passed. One match, and a return at
 // each condition: the compiler then goes on from an event that has passed to the function of its kind without a second match.
-pub fn first_refusal(words: &[u32], e: Event) -> u32
+pub fn first_refusal(words: &[u32], e: Event) -> Result<(), Refusal>
     requires { state_fits words.now ≡ true }
-    ensures { result ≡ first_refusal words.now e }
+    ensures { refused_number result ≡ first_refusal words.now e }
 {
     let h = state::header_of(words);
     match e {
         Event::Clock(t) => {
             if LAST_TIME < t {
-                return 5;
+                return Err(Refusal::Code);
             }
-            if_met(7, t < h.clock)
+            refused_if(t < h.clock, Refusal::Time)
         }
         Event::Session(s) => {
             if PRE_CLOSE < s {
-                return 5;
+                return Err(Refusal::Code);
             }
-            if_met(8, !all_sound(words))
+            refused_if(!all_sound(words), Refusal::Record)
         }
         Event::Setup(x) => {
             if h.securities <= x.security {
-                return 4;
+                return Err(Refusal::Name);
             }
             if !sound_terms(x.terms) {
-                return 5;
+                return Err(Refusal::Code);
             }
             if !sound_prior(x.prior) {
-                return 6;
+                return Err(Refusal::Price);
             }
-            if_met(8, !sound_security_at(words, x.security))
+            refused_if(!sound_security_at(words, x.security), Refusal::Record)
         }
         Event::Prices(x) => {
             if h.securities <= x.security {
-                return 4;
+                return Err(Refusal::Name);
             }
             if FOREIGN_BOARD < x.board {
-                return 5;
+                return Err(Refusal::Code);
             }
             if !sound_prices(x.prices) {
-                return 6;
+                return Err(Refusal::Price);
             }
-            if_met(8, !sound_security_at(words, x.security))
+            refused_if(!sound_security_at(words, x.security), Refusal::Record)
         }
         Event::Order(k, x) => {
             if (h.customers <= k) | (h.securities <= x.security) {
-                return 4;
+                return Err(Refusal::Name);
             }
             if bad_code(x) {
-                return 5;
+                return Err(Refusal::Code);
             }
             if !priced_as(x.order_type, x.price) {
-                return 6;
+                return Err(Refusal::Price);
             }
-            if_met(
-                8,
+            refused_if(
                 !(sound_security_at(words, x.security) & sound_desk_at(words, k)),
+                Refusal::Record,
             )
         }
         Event::Cancel(k, x) => {
             if h.customers <= k {
-                return 4;
+                return Err(Refusal::Name);
             }
             if x.number == 0 {
-                return 5;
+                return Err(Refusal::Code);
             }
-            if_met(8, !sound_desk_at(words, k))
+            refused_if(!sound_desk_at(words, k), Refusal::Record)
         }
         Event::Match(k, m) => {
             if h.customers <= k {
-                return 4;
+                return Err(Refusal::Name);
             }
             if m.number == 0 {
-                return 5;
+                return Err(Refusal::Code);
             }
-            if_met(8, !sound_desk_at(words, k))
+            refused_if(!sound_desk_at(words, k), Refusal::Record)
         }
         Event::Rest(k, r) => {
             if h.customers <= k {
-                return 4;
+                return Err(Refusal::Name);
             }
             if r.number == 0 {
-                return 5;
+                return Err(Refusal::Code);
             }
             if !Ladder::legal(r.price) {
-                return 6;
+                return Err(Refusal::Price);
             }
-            if_met(8, !sound_desk_at(words, k))
+            refused_if(!sound_desk_at(words, k), Refusal::Record)
         }
         Event::Figures(f) => {
             if h.securities <= f.security {
-                return 4;
+                return Err(Refusal::Name);
             }
-            if_met(8, !sound_security_at(words, f.security))
+            refused_if(!sound_security_at(words, f.security), Refusal::Record)
         }
     }
 }
 
-fn if_met(n: u32, met: bool) -> u32
-    ensures { result ≡ cond met n 0 }
+fn refused_if(met: bool, refusal: Refusal) -> Result<(), Refusal>
+    ensures { refused_number result ≡ cond met (refusal_number refusal) 0 }
 {
-    if met {
-        return n;
-    }
-    0
+    if met { Err(refusal) } else { Ok(()) }
 }
 
 // 5, of an order: "a code outside its list, .. order number 0"

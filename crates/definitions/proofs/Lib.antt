@@ -62,3 +62,4 @@ pub mod RangeCorners
 pub mod OrderCorners
 pub mod EventCases
 pub mod AnswerCases
+pub mod Answered

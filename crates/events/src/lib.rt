@@ -3,64 +3,54 @@
 
 ghost use Rattle.std.specs.Prelude.{◌≡◌, ◌+◌, ◌*◌, ◌≤◌, ◌<◌, length, get_or};
 ghost use Rattle.definitions.specs.Events.{two, four, length_of, clock_of, session_of, setup_of, prices_of, order_of, cancel_of, match_of, rest_of, figures_of, event_of};
+ghost use Rattle.definitions.specs.Answers.{numbered};
+ghost use Rattle.events.specs.Kinds.{kind_number};
 ghost use Rattle.events.specs.Readings.{read_event};
 
 use definitions::{
-    BoardPrices, Cancel, Event, Figures, Match, Order, Prices, PriorPrices, Reading, Rest,
+    BoardPrices, Cancel, Event, Figures, Match, Order, Prices, PriorPrices, Refusal, Rest,
     SecurityFigures, Setup, Terms,
 };
+use kind::Kind;
+
+mod kind;
 
 // "an unknown kind is found before a wrong length"
-pub fn read_event(bytes: &[u8]) -> Reading
-    ensures { result ≡ read_event bytes.now }
+pub fn read_event(bytes: &[u8]) -> Result<Event, Refusal>
+    ensures { numbered result ≡ read_event bytes.now }
 {
-    if bytes.len() == 0 {
-        return Reading::Refused(2);
+    if bytes.is_empty() {
+        return Err(Refusal::Length);
     }
-    let kind = bytes[0];
-    let length = length_of(kind);
-    if length == 0 {
-        return Reading::Refused(3);
+    let kind = Kind::try_from(bytes[0])?;
+    if bytes.len() != kind.length() {
+        return Err(Refusal::Length);
     }
-    if bytes.len() == length {
-        return Reading::Whole(event_of(kind, bytes));
-    }
-    Reading::Refused(2)
+    Ok(event_of(kind, bytes))
 }
 
 // The table's column "length"; 0 for an unknown kind.
 pub fn length_of(kind: u8) -> usize
     ensures { result ≡ length_of kind }
 {
-    match kind {
-        1 => 5,
-        2 => 2,
-        3 => 14,
-        4 => 20,
-        5 => 21,
-        6 => 7,
-        7 => 11,
-        8 => 11,
-        9 => 15,
-        _ => 0,
-    }
+    Kind::try_from(kind).map_or(0, |known| known.length())
 }
 
-// The arm of all other kinds is that of the last: a kind without a length does not come here.
-fn event_of(kind: u8, bytes: &[u8]) -> Event
-    requires { (0 < length_of kind) × (length bytes.now ≡ length_of kind) }
-    ensures { result ≡ event_of kind bytes.now }
+#[tactic(auto, unfolding(definitions::specs::Events::length_of, definitions::specs::Events::event_of))]
+fn event_of(kind: Kind, bytes: &[u8]) -> Event
+    requires { length bytes.now ≡ length_of (kind_number kind) }
+    ensures { result ≡ event_of (kind_number kind) bytes.now }
 {
     match kind {
-        1 => clock_of(bytes),
-        2 => session_of(bytes),
-        3 => setup_of(bytes),
-        4 => prices_of(bytes),
-        5 => order_of(bytes),
-        6 => cancel_of(bytes),
-        7 => match_of(bytes),
-        8 => rest_of(bytes),
-        _ => figures_of(bytes),
+        Kind::Clock => clock_of(bytes),
+        Kind::Session => session_of(bytes),
+        Kind::Setup => setup_of(bytes),
+        Kind::Prices => prices_of(bytes),
+        Kind::Order => order_of(bytes),
+        Kind::Cancel => cancel_of(bytes),
+        Kind::Match => match_of(bytes),
+        Kind::Rest => rest_of(bytes),
+        Kind::Figures => figures_of(bytes),
     }
 }
 
@@ -188,38 +178,20 @@ fn byte_at(bytes: &[u8], at: usize) -> u32
     requires { at < length bytes.now }
     ensures { result ≡ get_or bytes.now at 0 }
 {
-    wide(bytes[at])
+    u32::from(bytes[at])
 }
 
+// "little-endian"
 fn two_at(bytes: &[u8], at: usize) -> u32
     requires { at + 2 ≤ length bytes.now }
     ensures { result ≡ two bytes.now at }
 {
-    two_bytes(bytes[at], bytes[at + 1])
+    u32::from(u16::from_le_bytes([bytes[at], bytes[at + 1]]))
 }
 
 fn four_at(bytes: &[u8], at: usize) -> u32
     requires { at + 4 ≤ length bytes.now }
     ensures { result ≡ four bytes.now at }
 {
-    four_bytes(bytes[at], bytes[at + 1], bytes[at + 2], bytes[at + 3])
-}
-
-// "little-endian". The bytes are parameters, so that a read asks only for its index.
-fn two_bytes(low: u8, high: u8) -> u32
-    ensures { result ≡ low + 256 * high }
-{
-    low as u32 + 256 * (high as u32)
-}
-
-fn four_bytes(first: u8, second: u8, third: u8, fourth: u8) -> u32
-    ensures { result ≡ first + 256 * second + 65_536 * third + 16_777_216 * fourth }
-{
-    first as u32 + 256 * (second as u32) + 65_536 * (third as u32) + 16_777_216 * (fourth as u32)
-}
-
-fn wide(byte: u8) -> u32
-    ensures { result ≡ byte }
-{
-    byte as u32
+    u32::from_le_bytes([bytes[at], bytes[at + 1], bytes[at + 2], bytes[at + 3]])
 }

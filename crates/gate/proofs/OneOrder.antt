@@ -9,9 +9,10 @@ use denote.Triple.Clauses.{AtExit}
 use borrow.Fn.Kinds.{Dens, ended_of}
 use Rattle.definitions.specs.declared.Order.{Order}
 use Rattle.definitions.specs.declared.Event.TheVariants as event
-use Rattle.definitions.specs.Answers.{Answer}
+use Rattle.definitions.specs.Answers.{answered}
 use Rattle.definitions.specs.Events.{event_in}
 use Rattle.definitions.specs.Gate.{event_answer, event_words}
+use Rattle.definitions.proofs.Answered.{Given, one_answer}
 use Rattle.definitions.proofs.OneOrder.{AlikeFor, OnlyItsDesk}
 use Rattle.definitions.proofs.Demands.{one-order}
 use Rattle.gate.proofs.Outcomes.{Left}
@@ -22,7 +23,7 @@ use Rattle.gate.proofs.handle.Reads.{Learnt}
 pub record Call : Type 1 where
   pub lifetimes : Lfts 2
   pub lent : Dens lifetimes ps
-  pub answer : Answer
+  pub answer : Given
   pub left : AtExit (ended_of 2 ps r) lifetimes
   pub contract : Learnt lifetimes lent answer left
 
@@ -42,8 +43,8 @@ pub record OneOrderHandled (s k : ℕ) (one other : Call) : Type 0 where
   pub one_only : OnlyItsDesk k (words one) (words_left one)
   pub other-only : OnlyItsDesk k (words other) (words_left other)
 
-answered : (c : Call) → c.answer ≡ event_answer (words c) (bytes c)
-answered c = ap (λ (x : Left). x.0) c.contract
+answers : (c : Call) → answered c.answer ≡ event_answer (words c) (bytes c)
+answers c = ap (λ (x : Left). x.0) c.contract
 
 leaves : (c : Call) → words_left c ≡ event_words (words c) (bytes c)
 leaves c = ap (λ (x : Left). x.1) c.contract
@@ -55,7 +56,7 @@ one-order-handled one other k o same is-order alike =
     let done = one-order (words one) (words other) (bytes one) k o is-order alike in
     let left = leaves other ∙ ap (event_words (words other)) (sym same) in
     record {
-      same_answer = answered one ∙ done.same_answer ∙ ap (event_answer (words other)) same ∙ sym (answered other);
+      same_answer = one_answer one.answer other.answer (answers one ∙ done.same_answer ∙ ap (event_answer (words other)) same ∙ sym (answers other));
       left-alike = rw (leaves one, left) done.left-alike;
       one_only = subst (OnlyItsDesk k (words one)) (sym (leaves one)) done.one_only;
       other-only = subst (OnlyItsDesk k (words other)) (sym left) done.other-only;

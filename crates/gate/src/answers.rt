@@ -1,16 +1,16 @@
 // The number of an answer, as it is handed to C and written to the places for answers.
 ghost use Rattle.std.specs.Prelude.{◌≡◌};
-ghost use Rattle.definitions.specs.Answers.{answer_number, verdict_number};
+ghost use Rattle.definitions.specs.Answers.{answer_number, answered, verdict_number};
 
 use definitions::{Answer, Verdict};
 
 pub fn answer_number(a: Answer) -> u32
-    ensures { result ≡ answer_number a }
+    ensures { result ≡ answer_number (answered a) }
 {
     match a {
-        Answer::Ok => 0,
-        Answer::Verdict(v) => verdict_number(v),
-        Answer::Refused(n) => n,
+        Ok(None) => 0,
+        Ok(Some(v)) => verdict_number(v),
+        Err(refusal) => refusal.number(),
     }
 }
 

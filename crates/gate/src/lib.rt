@@ -2,12 +2,12 @@
 #![tactic(auto)]
 
 ghost use Rattle.std.specs.Prelude.{true, ◌≡◌};
+ghost use Rattle.definitions.specs.Answers.{answered};
 ghost use Rattle.definitions.specs.State.{state_fits};
 ghost use Rattle.definitions.specs.Gate.{result_of, outcome, made};
 ghost use Rattle.kind_contract.specs.First.{event_outcome};
-ghost use Rattle.gate.specs.Reading.{refused_by};
 
-use definitions::{Answer, Event, Reading};
+use definitions::{Answer, Event, Refusal};
 
 mod answers;
 mod range;
@@ -17,41 +17,38 @@ pub use range::{ceiling_number, daily_range, floor_number};
 
 // One event's bytes, handed to the gate over lent words. Total on every slice of words and of bytes.
 pub fn handle(words: &mut [u32], event: &[u8]) -> Answer
-    ensures { (result, words.new) ≡ result_of words.old (outcome words.old event.now) }
+    ensures { (answered result, words.new) ≡ result_of words.old (outcome words.old event.now) }
 {
     if !state::state_fits(words) {
-        return Answer::Refused(1);
+        return Err(Refusal::State);
     }
     let reading = events::read_event(event);
-    let Reading::Whole(whole) = reading else {
-        return refused(reading);
+    let Ok(whole) = reading else {
+        return reading.map(|_| None);
     };
     apply(words, whole)
 }
 
 // A fresh state of C customers and S securities, made in lent words.
 pub fn make(words: &mut [u32], customers: u32, securities: u32) -> Answer
-    ensures { (result, words.new) ≡ result_of words.old (made words.old customers securities) }
+    ensures { (answered result, words.new) ≡ result_of words.old (made words.old customers securities) }
 {
     if !state::sizes_fit(customers, securities) {
-        return Answer::Refused(1);
+        return Err(Refusal::State);
     }
     if words.len() != state::desk_place(securities, customers) {
-        return Answer::Refused(1);
+        return Err(Refusal::State);
     }
     state::make_fresh(words, customers, securities);
-    Answer::Ok
+    Ok(None)
 }
 
 // Conditions 4 to 8 are asked once for all kinds; the function of a kind asks those after 8, and does what the event does.
 fn apply(words: &mut [u32], event: Event) -> Answer
     requires { state_fits words.old ≡ true }
-    ensures { (result, words.new) ≡ result_of words.old (event_outcome words.old event) }
+    ensures { (answered result, words.new) ≡ result_of words.old (event_outcome words.old event) }
 {
-    let refusal = conditions::first_refusal(words, event);
-    if refusal != 0 {
-        return Answer::Refused(refusal);
-    }
+    conditions::first_refusal(words, event)?;
     match event {
         Event::Clock(time) => kind_clock::handle(words, time),
         Event::Session(s) => kind_session::handle(words, s),
@@ -62,14 +59,5 @@ fn apply(words: &mut [u32], event: Event) -> Answer
         Event::Match(k, x) => kind_match::handle(words, k, x),
         Event::Rest(k, x) => kind_rest::handle(words, k, x),
         Event::Figures(x) => kind_figures::handle(words, x),
-    }
-}
-
-fn refused(reading: Reading) -> Answer
-    ensures { result ≡ refused_by reading }
-{
-    match reading {
-        Reading::Refused(n) => Answer::Refused(n),
-        Reading::Whole(_) => Answer::Ok,
     }
 }

@@ -3,6 +3,7 @@
 
 ghost use Rattle.std.specs.Prelude.{◌≡◌};
 ghost use Rattle.definitions.specs.declared.Event.TheVariants as event;
+ghost use Rattle.definitions.specs.Answers.{answered};
 ghost use Rattle.definitions.specs.Gate.{result_of};
 ghost use Rattle.kind_contract.specs.First.{Ready, later_outcome};
 
@@ -11,8 +12,8 @@ use definitions::codes::CLOCK_PLACE;
 
 pub fn handle(words: &mut [u32], time: u32) -> Answer
     requires { Ready words.old (event.Clock time) }
-    ensures { (result, words.new) ≡ result_of words.old (later_outcome words.old (event.Clock time)) }
+    ensures { (answered result, words.new) ≡ result_of words.old (later_outcome words.old (event.Clock time)) }
 {
     words[CLOCK_PLACE] = time;
-    Answer::Ok
+    Ok(None)
 }

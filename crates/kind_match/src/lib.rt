@@ -3,26 +3,27 @@
 
 ghost use Rattle.std.specs.Prelude.{◌≡◌};
 ghost use Rattle.definitions.specs.declared.Event.TheVariants as event;
+ghost use Rattle.definitions.specs.Answers.{answered};
 ghost use Rattle.definitions.specs.Gate.{result_of};
 ghost use Rattle.kind_contract.specs.First.{Ready, later_outcome};
 
-use definitions::{Answer, Match};
+use definitions::{Answer, Match, Refusal};
 
 pub fn handle(words: &mut [u32], k: u32, x: Match) -> Answer
     requires { Ready words.old (event.Match k x) }
-    ensures { (result, words.new) ≡ result_of words.old (later_outcome words.old (event.Match k x)) }
+    ensures { (answered result, words.new) ≡ result_of words.old (later_outcome words.old (event.Match k x)) }
 {
     let found = state_records::row_with(words, k, x.number);
     if !desk_rows::open_with(x.number, found.row) {
-        return Answer::Refused(10);
+        return Err(Refusal::NoOpenRow);
     }
     if x.volume == 0 {
-        return Answer::Refused(11);
+        return Err(Refusal::Volume);
     }
     if found.row.volume < x.volume {
-        return Answer::Refused(11);
+        return Err(Refusal::Volume);
     }
     let left = desk_rows::matched_row(x.number, x.volume, found.row);
     one_row::change_row(words, k, found.place, left);
-    Answer::Ok
+    Ok(None)
 }

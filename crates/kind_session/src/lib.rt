@@ -5,6 +5,7 @@ ghost use Rattle.std.specs.Prelude.{length, ◌≡◌};
 ghost use Rattle.definitions.specs.Lists.{each};
 ghost use Rattle.definitions.specs.State.{header_of, state_size};
 ghost use Rattle.definitions.specs.declared.Event.TheVariants as event;
+ghost use Rattle.definitions.specs.Answers.{answered};
 ghost use Rattle.definitions.specs.Desks.{changed, session_row};
 ghost use Rattle.definitions.specs.Gate.{result_of, change_security, change_desk};
 ghost use Rattle.definitions.specs.Securities.{without_projected};
@@ -17,16 +18,16 @@ use state::header_of;
 // "the same session changes nothing"
 pub fn handle(words: &mut [u32], s: u32) -> Answer
     requires { Ready words.old (event.Session s) }
-    ensures { (result, words.new) ≡ result_of words.old (later_outcome words.old (event.Session s)) }
+    ensures { (answered result, words.new) ≡ result_of words.old (later_outcome words.old (event.Session s)) }
 {
     let h = header_of(words);
     if s == h.session {
-        return Answer::Ok;
+        return Ok(None);
     }
     words[SESSION_PLACE] = s;
     clear_projected(words);
     change_desks(words);
-    Answer::Ok
+    Ok(None)
 }
 
 // "makes every projected price absent"

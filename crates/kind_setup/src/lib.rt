@@ -3,6 +3,7 @@
 
 ghost use Rattle.std.specs.Prelude.{◌≡◌};
 ghost use Rattle.definitions.specs.declared.Event.TheVariants as event;
+ghost use Rattle.definitions.specs.Answers.{answered};
 ghost use Rattle.definitions.specs.Gate.{result_of};
 ghost use Rattle.kind_contract.specs.First.{Ready, later_outcome};
 
@@ -10,9 +11,9 @@ use definitions::{Answer, Setup};
 
 pub fn handle(words: &mut [u32], x: Setup) -> Answer
     requires { Ready words.old (event.Setup x) }
-    ensures { (result, words.new) ≡ result_of words.old (later_outcome words.old (event.Setup x)) }
+    ensures { (answered result, words.new) ≡ result_of words.old (later_outcome words.old (event.Setup x)) }
 {
     let s = state_records::security_at(words, x.security);
     state_records::put_security(words, x.security, securities::after_setup(x, s));
-    Answer::Ok
+    Ok(None)
 }

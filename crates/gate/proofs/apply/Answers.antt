@@ -2,6 +2,7 @@
 use mathlib.Core.List.{List}
 use Prim.Native.Nat.{ℕ}
 use mathlib.Core.Path.{◌≡◌, ap, sym, subst, ◌∙◌}
+use Rattle.std.proofs.lemmas.Result.{err_from_is_err_and}
 use Rattle.definitions.specs.declared.Event.{Event}
 use Rattle.definitions.specs.Gate.{result_of}
 use Rattle.kind_contract.specs.First.{Ready, later_outcome}
@@ -12,62 +13,64 @@ use Rattle.gate.proofs.apply.Goals as goal
 of-kind : (w : List ℕ) {e f : Event} → e ≡ f → {x : Left} → x ≡ result_of w (later_outcome w f) → x ≡ result_of w (later_outcome w e)
 of-kind w kind does = does ∙ ap (λ (g : Event). result_of w (later_outcome w g)) (sym kind)
 
-pub first_refusal-refusal-requires : goal.first_refusal-refusal-requires
-first_refusal-refusal-requires c = c.requires
+pub first_refusal-requires : goal.first_refusal-requires
+first_refusal-requires c = c.requires
 
-pub returns-then-refusal-ne0 : goal.returns-then-refusal-ne0
-returns-then-refusal-ne0 c = event-refused _ _ c.first_refusal-refusal.ensures c.if-refusal-ne0.true
+pub returns-in_err-first_refusal : goal.returns-in_err-first_refusal
+returns-in_err-first_refusal c =
+    let p = err_from_is_err_and c.from_residual.result c.from_residual.ensures.1 in
+    rw (p.1, p.2) (event-refused _ _ c.first_refusal.ensures c.in_err-first_refusal.was)
 
 pub handle-requires : goal.handle-requires
-handle-requires c = subst (Ready _) c.in-Clock.is (event-ready _ _ c.requires c.first_refusal-refusal.ensures c.if-refusal-ne0.false)
+handle-requires c = subst (Ready _) c.in-Clock.is (event-ready _ _ c.first_refusal.ensures c.in_ok-first_refusal.was c.requires)
 
 pub handle-requires-in-Session : goal.handle-requires-in-Session
-handle-requires-in-Session c = subst (Ready _) c.in-Session.is (event-ready _ _ c.requires c.first_refusal-refusal.ensures c.if-refusal-ne0.false)
+handle-requires-in-Session c = subst (Ready _) c.in-Session.is (event-ready _ _ c.first_refusal.ensures c.in_ok-first_refusal.was c.requires)
 
 pub handle-requires-in-Setup : goal.handle-requires-in-Setup
-handle-requires-in-Setup c = subst (Ready _) c.in-Setup.is (event-ready _ _ c.requires c.first_refusal-refusal.ensures c.if-refusal-ne0.false)
+handle-requires-in-Setup c = subst (Ready _) c.in-Setup.is (event-ready _ _ c.first_refusal.ensures c.in_ok-first_refusal.was c.requires)
 
 pub handle-requires-in-Prices : goal.handle-requires-in-Prices
-handle-requires-in-Prices c = subst (Ready _) c.in-Prices.is (event-ready _ _ c.requires c.first_refusal-refusal.ensures c.if-refusal-ne0.false)
+handle-requires-in-Prices c = subst (Ready _) c.in-Prices.is (event-ready _ _ c.first_refusal.ensures c.in_ok-first_refusal.was c.requires)
 
 pub handle-requires-in-Order : goal.handle-requires-in-Order
-handle-requires-in-Order c = subst (Ready _) c.in-Order.is (event-ready _ _ c.requires c.first_refusal-refusal.ensures c.if-refusal-ne0.false)
+handle-requires-in-Order c = subst (Ready _) c.in-Order.is (event-ready _ _ c.first_refusal.ensures c.in_ok-first_refusal.was c.requires)
 
 pub handle-requires-in-Cancel : goal.handle-requires-in-Cancel
-handle-requires-in-Cancel c = subst (Ready _) c.in-Cancel.is (event-ready _ _ c.requires c.first_refusal-refusal.ensures c.if-refusal-ne0.false)
+handle-requires-in-Cancel c = subst (Ready _) c.in-Cancel.is (event-ready _ _ c.first_refusal.ensures c.in_ok-first_refusal.was c.requires)
 
 pub handle-requires-in-Match : goal.handle-requires-in-Match
-handle-requires-in-Match c = subst (Ready _) c.in-Match.is (event-ready _ _ c.requires c.first_refusal-refusal.ensures c.if-refusal-ne0.false)
+handle-requires-in-Match c = subst (Ready _) c.in-Match.is (event-ready _ _ c.first_refusal.ensures c.in_ok-first_refusal.was c.requires)
 
 pub handle-requires-in-Rest : goal.handle-requires-in-Rest
-handle-requires-in-Rest c = subst (Ready _) c.in-Rest.is (event-ready _ _ c.requires c.first_refusal-refusal.ensures c.if-refusal-ne0.false)
+handle-requires-in-Rest c = subst (Ready _) c.in-Rest.is (event-ready _ _ c.first_refusal.ensures c.in_ok-first_refusal.was c.requires)
 
 pub handle-requires-in-Figures : goal.handle-requires-in-Figures
-handle-requires-in-Figures c = subst (Ready _) c.in-Figures.is (event-ready _ _ c.requires c.first_refusal-refusal.ensures c.if-refusal-ne0.false)
+handle-requires-in-Figures c = subst (Ready _) c.in-Figures.is (event-ready _ _ c.first_refusal.ensures c.in_ok-first_refusal.was c.requires)
 
 pub returns-in-Clock : goal.returns-in-Clock
-returns-in-Clock c = event-later _ _ c.first_refusal-refusal.ensures c.if-refusal-ne0.false (of-kind c.args.words.now c.in-Clock.is c.handle.ensures)
+returns-in-Clock c = event-later _ _ c.first_refusal.ensures c.in_ok-first_refusal.was (of-kind c.args.words.now c.in-Clock.is c.handle.ensures)
 
 pub returns-in-Session : goal.returns-in-Session
-returns-in-Session c = event-later _ _ c.first_refusal-refusal.ensures c.if-refusal-ne0.false (of-kind c.args.words.now c.in-Session.is c.handle-in-Session.ensures)
+returns-in-Session c = event-later _ _ c.first_refusal.ensures c.in_ok-first_refusal.was (of-kind c.args.words.now c.in-Session.is c.handle-in-Session.ensures)
 
 pub returns-in-Setup : goal.returns-in-Setup
-returns-in-Setup c = event-later _ _ c.first_refusal-refusal.ensures c.if-refusal-ne0.false (of-kind c.args.words.now c.in-Setup.is c.handle-in-Setup.ensures)
+returns-in-Setup c = event-later _ _ c.first_refusal.ensures c.in_ok-first_refusal.was (of-kind c.args.words.now c.in-Setup.is c.handle-in-Setup.ensures)
 
 pub returns-in-Prices : goal.returns-in-Prices
-returns-in-Prices c = event-later _ _ c.first_refusal-refusal.ensures c.if-refusal-ne0.false (of-kind c.args.words.now c.in-Prices.is c.handle-in-Prices.ensures)
+returns-in-Prices c = event-later _ _ c.first_refusal.ensures c.in_ok-first_refusal.was (of-kind c.args.words.now c.in-Prices.is c.handle-in-Prices.ensures)
 
 pub returns-in-Order : goal.returns-in-Order
-returns-in-Order c = event-later _ _ c.first_refusal-refusal.ensures c.if-refusal-ne0.false (of-kind c.args.words.now c.in-Order.is c.handle-in-Order.ensures)
+returns-in-Order c = event-later _ _ c.first_refusal.ensures c.in_ok-first_refusal.was (of-kind c.args.words.now c.in-Order.is c.handle-in-Order.ensures)
 
 pub returns-in-Cancel : goal.returns-in-Cancel
-returns-in-Cancel c = event-later _ _ c.first_refusal-refusal.ensures c.if-refusal-ne0.false (of-kind c.args.words.now c.in-Cancel.is c.handle-in-Cancel.ensures)
+returns-in-Cancel c = event-later _ _ c.first_refusal.ensures c.in_ok-first_refusal.was (of-kind c.args.words.now c.in-Cancel.is c.handle-in-Cancel.ensures)
 
 pub returns-in-Match : goal.returns-in-Match
-returns-in-Match c = event-later _ _ c.first_refusal-refusal.ensures c.if-refusal-ne0.false (of-kind c.args.words.now c.in-Match.is c.handle-in-Match.ensures)
+returns-in-Match c = event-later _ _ c.first_refusal.ensures c.in_ok-first_refusal.was (of-kind c.args.words.now c.in-Match.is c.handle-in-Match.ensures)
 
 pub returns-in-Rest : goal.returns-in-Rest
-returns-in-Rest c = event-later _ _ c.first_refusal-refusal.ensures c.if-refusal-ne0.false (of-kind c.args.words.now c.in-Rest.is c.handle-in-Rest.ensures)
+returns-in-Rest c = event-later _ _ c.first_refusal.ensures c.in_ok-first_refusal.was (of-kind c.args.words.now c.in-Rest.is c.handle-in-Rest.ensures)
 
 pub returns-in-Figures : goal.returns-in-Figures
-returns-in-Figures c = event-later _ _ c.first_refusal-refusal.ensures c.if-refusal-ne0.false (of-kind c.args.words.now c.in-Figures.is c.handle-in-Figures.ensures)
+returns-in-Figures c = event-later _ _ c.first_refusal.ensures c.in_ok-first_refusal.was (of-kind c.args.words.now c.in-Figures.is c.handle-in-Figures.ensures)

@@ -6,7 +6,7 @@ use Rattle.rule_market.proofs.Apart.{none_apart, by-price}
 use Rattle.rule_market.proofs.positions.ten_apart.Goals as goal
 
 pub returns-in_default : goal.returns-in_default
-returns-in_default c = none_apart _ _ (sym c.nearest-near.ensures ∙ c.in_default.is)
+returns-in_default c = none_apart _ _ (sym c.nearest.ensures ∙ c.in_default.is)
 
 pub returns : goal.returns
 returns c =
@@ -17,4 +17,4 @@ returns c =
       c.ten_up.ensures,
       c.ten_down.ensures,
     )
-    (by-price _ _ (sym c.nearest-near.ensures ∙ c.in-Positions.is) (number-to-last _))
+    (by-price _ _ (sym c.nearest.ensures ∙ c.in-Some.is) (number-to-last _))

@@ -1,6 +1,0 @@
--- `events::four_bytes` meets its contract: bytes below 256 at places of 256 give a number that fits 32 bits.
-use mathlib.Core.Path.{refl}
-use Rattle.events.proofs.four_bytes.Goals as goal
-
-pub returns : goal.returns
-returns c = refl
