@@ -41,7 +41,7 @@ pub struct Prices {
 }
 
 // Paper 02, 3: what a dividend and a right to new shares take from the prior close; all zero without figures.
-#[derive(Clone, Copy, Default)]
+#[derive(Clone, Copy, PartialEq, Eq, Default)]
 pub struct Figures {
     pub dividend: u32,
     pub subscription: u32,
