@@ -2,23 +2,21 @@
 #![tactic(auto)]
 
 ghost use Rattle.std.specs.Prelude.{◌≡◌};
-ghost use Rattle.definitions.specs.Desks.{counted, counted_up, counter_of, is_rejected, takes_row};
+ghost use Rattle.definitions.specs.Desks.{counted, counted_up, counter_of, takes_row};
 
-use definitions::codes::MAX_COUNT;
 use definitions::{Counter, Desk, Verdict};
 
 fn counter_of(v: Verdict) -> Counter
     ensures { result ≡ counter_of v }
 {
     match v {
-        Verdict::RejectS => Counter::Rejected,
-        Verdict::RejectV => Counter::Rejected,
-        Verdict::RejectC => Counter::Rejected,
-        Verdict::RejectQ => Counter::Rejected,
-        Verdict::RejectW => Counter::Rejected,
-        Verdict::RejectP => Counter::Rejected,
-        Verdict::Warn30 => Counter::Warned,
-        Verdict::Warn10 => Counter::Warned,
+        Verdict::RejectS
+        | Verdict::RejectV
+        | Verdict::RejectC
+        | Verdict::RejectQ
+        | Verdict::RejectW
+        | Verdict::RejectP => Counter::Rejected,
+        Verdict::Warn30 | Verdict::Warn10 => Counter::Warned,
         Verdict::Accept => Counter::Accepted,
     }
 }
@@ -27,44 +25,25 @@ fn counter_of(v: Verdict) -> Counter
 pub fn takes_row(v: Verdict) -> bool
     ensures { result ≡ takes_row v }
 {
-    !is_rejected(counter_of(v))
-}
-
-fn is_rejected(c: Counter) -> bool
-    ensures { result ≡ is_rejected c }
-{
-    match c {
-        Counter::Accepted => false,
-        Counter::Warned => false,
-        Counter::Rejected => true,
-    }
+    counter_of(v) != Counter::Rejected
 }
 
 // "Each verdict adds 1 to its counter"
-pub fn counted(v: Verdict, d: Desk) -> Desk
+#[tactic(auto, unfolding(definitions::specs::Desks::counted))]
+pub fn counted(v: Verdict, mut d: Desk) -> Desk
     ensures { result ≡ counted v d }
 {
-    let mut after = d;
     match counter_of(v) {
-        Counter::Accepted => {
-            after.accepted = counted_up(d.accepted);
-        }
-        Counter::Warned => {
-            after.warned = counted_up(d.warned);
-        }
-        Counter::Rejected => {
-            after.rejected = counted_up(d.rejected);
-        }
+        Counter::Accepted => d.accepted = counted_up(d.accepted),
+        Counter::Warned => d.warned = counted_up(d.warned),
+        Counter::Rejected => d.rejected = counted_up(d.rejected),
     }
-    after
+    d
 }
 
 // "each stays at 4,294,967,295 once there"
 fn counted_up(n: u32) -> u32
     ensures { result ≡ counted_up n }
 {
-    if n < MAX_COUNT {
-        return n + 1;
-    }
-    n
+    n.saturating_add(1)
 }

@@ -12,39 +12,27 @@ use definitions::{Order, Row};
 pub fn free_row() -> Row
     ensures { result ≡ free_row }
 {
-    Row {
-        mark: 0,
-        number: 0,
-        security: 0,
-        board: 0,
-        side: 0,
-        order_type: 0,
-        price: 0,
-        volume: 0,
-        cancel_time: 0,
-    }
+    Row::default()
 }
 
 // "cancelled at most 60,000 ms ago", in 64 bits, since the sum may not fit in 32.
 pub fn in_minute(clock: u32, time: u32) -> bool
     ensures { result ≡ in_minute clock time }
 {
-    (clock as u64) <= (time as u64) + MINUTE
+    u64::from(clock) <= u64::from(time) + MINUTE
 }
 
 fn cancelled_in_minute(clock: u32, r: Row) -> bool
     ensures { result ≡ cancelled_in_minute clock r }
 {
-    let minute = in_minute(clock, r.cancel_time);
-    (r.mark == CANCELLED_MARK) & minute
+    (r.mark == CANCELLED_MARK) & in_minute(clock, r.cancel_time)
 }
 
 // "open rows and rows cancelled at most 60,000 ms ago"
 pub fn open_or_in_minute(clock: u32, r: Row) -> bool
     ensures { result ≡ open_or_in_minute clock r }
 {
-    let minute = cancelled_in_minute(clock, r);
-    (r.mark == OPEN_MARK) | minute
+    (r.mark == OPEN_MARK) | cancelled_in_minute(clock, r)
 }
 
 pub fn holds_number(clock: u32, number: u32, r: Row) -> bool
@@ -63,8 +51,7 @@ pub fn open_with(number: u32, r: Row) -> bool
 pub fn open_mp_with(number: u32, r: Row) -> bool
     ensures { result ≡ open_mp_with number r }
 {
-    let open = open_with(number, r);
-    open & (r.order_type == MP)
+    open_with(number, r) & (r.order_type == MP)
 }
 
 // "ATO and ATC"
@@ -79,20 +66,21 @@ pub fn session_row(r: Row) -> Row
     ensures { result ≡ session_row r }
 {
     if is_auction(r.order_type) | (r.order_type == MP) {
-        return free_row();
+        free_row()
+    } else {
+        r
     }
-    r
 }
 
 // "rows cancelled more than 60,000 ms ago go"
 pub fn expired_row(clock: u32, r: Row) -> Row
     ensures { result ≡ expired_row clock r }
 {
-    let minute = cancelled_in_minute(clock, r);
-    if (r.mark == CANCELLED_MARK) & !minute {
-        return free_row();
+    if (r.mark == CANCELLED_MARK) & !cancelled_in_minute(clock, r) {
+        free_row()
+    } else {
+        r
     }
-    r
 }
 
 // "marks an open limit row cancelled at the clock, or removes an ATO or ATC row", and one of type 3
@@ -105,10 +93,11 @@ pub fn cancelled_row(number: u32, clock: u32, r: Row) -> Row
     if r.order_type != LIMIT {
         return free_row();
     }
-    let mut cancelled = r;
-    cancelled.mark = CANCELLED_MARK;
-    cancelled.cancel_time = clock;
-    cancelled
+    Row {
+        mark: CANCELLED_MARK,
+        cancel_time: clock,
+        ..r
+    }
 }
 
 // "lowers the volume; at 0 the row goes"
@@ -121,9 +110,10 @@ pub fn matched_row(number: u32, volume: u32, r: Row) -> Row
     if r.volume <= volume {
         return free_row();
     }
-    let mut left = r;
-    left.volume -= volume;
-    left
+    Row {
+        volume: r.volume - volume,
+        ..r
+    }
 }
 
 // Paper 02, 1: "It makes an open type 3 row a limit at that ladder price"
@@ -133,10 +123,11 @@ pub fn rest_row(number: u32, price: u32, r: Row) -> Row
     if !open_mp_with(number, r) {
         return r;
     }
-    let mut limited = r;
-    limited.order_type = LIMIT;
-    limited.price = price;
-    limited
+    Row {
+        order_type: LIMIT,
+        price,
+        ..r
+    }
 }
 
 // "then the order stands last as an open row"

@@ -2,7 +2,7 @@
 // 0 is an absent price.
 #![tactic(auto)]
 
-ghost use Rattle.std.specs.Prelude.{cond, ◌≡◌};
+ghost use Rattle.std.specs.Prelude.{◌≡◌};
 ghost use Rattle.definitions.specs.Codes.{in_auction};
 ghost use Rattle.definitions.specs.Rules.{or_else, value_of, best_opposite, main_last_sale, first_day_ipo, reference_q, reference30, reference10};
 
@@ -21,43 +21,42 @@ pub fn in_auction(session: u32) -> bool
 pub fn value_of(o: Order) -> u64
     ensures { result ≡ value_of o }
 {
-    (o.price as u64) * (o.volume as u64)
-}
-
-fn pick(t: bool, a: u32, b: u32) -> u32
-    ensures { result ≡ cond t a b }
-{
-    if t {
-        return a;
-    }
-    b
+    u64::from(o.price) * u64::from(o.volume)
 }
 
 fn or_else(a: u32, b: u32) -> u32
     ensures { result ≡ or_else a b }
 {
-    pick(a == 0, b, a)
+    if a == 0 { b } else { a }
 }
 
 // The offer for a buy, the bid for a sell.
 pub fn best_opposite(p: Prices, side: u32) -> u32
     ensures { result ≡ best_opposite p side }
 {
-    pick(side == BUY, p.offer, p.bid)
+    if side == BUY { p.offer } else { p.bid }
 }
 
 // "on the foreign board else the main board's last sale"
 fn main_last_sale(s: Security, board: u32) -> u32
     ensures { result ≡ main_last_sale s board }
 {
-    pick(board == FOREIGN_BOARD, s.main.last_sale, 0)
+    if board == FOREIGN_BOARD {
+        s.main.last_sale
+    } else {
+        0
+    }
 }
 
 // "the IPO price if first day and not 0"
 fn first_day_ipo(s: Security) -> u32
     ensures { result ≡ first_day_ipo s }
 {
-    pick(s.terms.first_day == 1, s.prior.ipo, 0)
+    if s.terms.first_day == 1 {
+        s.prior.ipo
+    } else {
+        0
+    }
 }
 
 pub fn reference_q(s: Security, board: u32) -> u32

@@ -2,7 +2,7 @@
 #![tactic(auto)]
 
 ghost use Rattle.std.specs.Prelude.{◌≡◌};
-ghost use Rattle.definitions.specs.Securities.{after_figures, after_prices, after_setup, no_projected, security, with_prices, without_projected};
+ghost use Rattle.definitions.specs.Securities.{after_figures, after_prices, after_setup, no_projected, without_projected};
 ghost use Rattle.definitions.specs.Rules.{prices_on};
 ghost use Rattle.definitions.specs.Sound.{price_or_absent, settable, sound_figures, sound_prices, sound_prior, sound_security, sound_terms};
 
@@ -16,79 +16,68 @@ pub fn prices_on(s: Security, board: u32) -> Prices
     ensures { result ≡ prices_on s board }
 {
     if board == FOREIGN_BOARD {
-        return s.foreign;
+        s.foreign
+    } else {
+        s.main
     }
-    s.main
-}
-
-fn security(
-    terms: Terms,
-    prior: PriorPrices,
-    main: Prices,
-    foreign: Prices,
-    figures: Figures,
-) -> Security
-    ensures { result ≡ security terms prior main foreign figures }
-{
-    Security {
-        terms,
-        prior,
-        main,
-        foreign,
-        figures,
-    }
-}
-
-fn with_prices(main: Prices, foreign: Prices, s: Security) -> Security
-    ensures { result ≡ with_prices main foreign s }
-{
-    security(s.terms, s.prior, main, foreign, s.figures)
 }
 
 // "Kinds 3 and 4 replace the fields they name."; of kind 9's figures: "kind 3 clears it"
+#[tactic(auto, unfolding(definitions::specs::Securities::after_setup))]
 pub fn after_setup(x: Setup, s: Security) -> Security
     ensures { result ≡ after_setup x s }
 {
-    let none = Figures {
-        dividend: 0,
-        subscription: 0,
-        old_shares: 0,
-        new_shares: 0,
-    };
-    security(x.terms, x.prior, s.main, s.foreign, none)
+    Security {
+        terms: x.terms,
+        prior: x.prior,
+        figures: Figures::default(),
+        ..s
+    }
 }
 
+#[tactic(auto, unfolding(definitions::specs::Securities::after_figures))]
 pub fn after_figures(x: SecurityFigures, s: Security) -> Security
     ensures { result ≡ after_figures x s }
 {
-    security(s.terms, s.prior, s.main, s.foreign, x.figures)
+    Security {
+        figures: x.figures,
+        ..s
+    }
 }
 
+#[tactic(auto, unfolding(definitions::specs::Securities::after_prices))]
 pub fn after_prices(x: BoardPrices, s: Security) -> Security
     ensures { result ≡ after_prices x s }
 {
     if x.board == FOREIGN_BOARD {
-        return with_prices(s.main, x.prices, s);
+        Security {
+            foreign: x.prices,
+            ..s
+        }
+    } else {
+        Security {
+            main: x.prices,
+            ..s
+        }
     }
-    with_prices(x.prices, s.foreign, s)
 }
 
 fn no_projected(p: Prices) -> Prices
     ensures { result ≡ no_projected p }
 {
-    Prices {
-        projected: 0,
-        last_sale: p.last_sale,
-        bid: p.bid,
-        offer: p.offer,
-    }
+    Prices { projected: 0, ..p }
 }
 
 // "makes every projected price absent"
+#[tactic(auto, unfolding(definitions::specs::Securities::without_projected))]
 pub fn without_projected(s: Security) -> Security
     ensures { result ≡ without_projected s }
 {
-    with_prices(no_projected(s.main), no_projected(s.foreign), s)
+    Security {
+        main: no_projected(s.main),
+        foreign: no_projected(s.foreign),
+        ..s
+    }
 }
 
 // "lot and flags have listed values"
@@ -134,13 +123,10 @@ pub fn settable(close: u32, f: Figures) -> bool
 fn sound_figures(close: u32, f: Figures) -> bool
     ensures { result ≡ sound_figures close f }
 {
-    let none = (f.dividend == 0)
-        & (f.subscription == 0)
-        & (f.old_shares == 0)
-        & (f.new_shares == 0);
-    none | settable(close, f)
+    (f == Figures::default()) | settable(close, f)
 }
 
+#[tactic(auto, unfolding(definitions::specs::Sound::sound_security))]
 pub fn sound_security(s: Security) -> bool
     ensures { result ≡ sound_security s }
 {

@@ -1,6 +1,0 @@
--- `securities::settable` meets its contract: the tests of the definition, in its order.
-use mathlib.Core.Path.{refl}
-use Rattle.securities.proofs.settable.Goals as goal
-
-pub returns : goal.returns
-returns c = refl
