@@ -18,7 +18,7 @@ fn product(price: u32, shares: u32) -> u64
     requires { shares ≤ max_shares }
     ensures { (result ≡ price * shares) × (result < 2 ^ 48) }
 {
-    (price as u64) * (shares as u64)
+    u64::from(price) * u64::from(shares)
 }
 
 // "((prior close − dividend) × old + subscription × new) / (old + new)"
@@ -30,7 +30,7 @@ fn adjusted(close: u32, f: Figures) -> Base
     let paid = product(f.subscription, f.new_shares);
     Base {
         numerator: left + paid,
-        denominator: (f.old_shares + f.new_shares) as u64,
+        denominator: u64::from(f.old_shares + f.new_shares),
     }
 }
 
@@ -38,16 +38,17 @@ fn not_above(b: Base, close: u32) -> bool
     requires { b.denominator ≤ 131_070 }
     ensures { result ≡ not_above b close }
 {
-    b.numerator <= (close as u64) * b.denominator
+    b.numerator <= u64::from(close) * b.denominator
 }
 
 // "The base is the smaller of the prior close and ..; without kind 9 figures it is the prior close."
+#[tactic(auto, unfolding(definitions::specs::Ranges::base_of))]
 fn base_of(close: u32, f: Figures) -> Base
     requires { sound_figures close f ≡ true }
     ensures { result ≡ base_of close f }
 {
     let whole = Base {
-        numerator: close as u64,
+        numerator: u64::from(close),
         denominator: 1,
     };
     if f.old_shares == 0 {
@@ -60,39 +61,29 @@ fn base_of(close: u32, f: Figures) -> Base
     other
 }
 
-// "at least 1"
-fn at_least_one(price: u32) -> u32
-    ensures { result ≡ max 1 price }
-{
-    if price < 1 {
-        return 1;
-    }
-    price
-}
-
-// "Ceiling is 130% of the base, down to a legal price and at most 10,000,000"
+// "Ceiling is 130% of the base, down to a legal price and at most 10,000,000", "at least 1"
+#[tactic(auto, unfolding(definitions::specs::Ranges::ceiling_of))]
 fn ceiling_of(b: Base) -> u32
     requires { Bounded b }
     ensures { result ≡ ceiling_of b }
 {
     let whole = 130 * b.numerator / (100 * b.denominator);
-    if Ladder::LAST_PRICE as u64 <= whole {
-        return Ladder::LAST_PRICE;
-    }
-    at_least_one(Ladder::legal_down(whole as u32))
+    let most = whole.min(u64::from(Ladder::LAST_PRICE));
+    Ladder::legal_down(most as u32).max(1)
 }
 
 // "floor is 70%, up to one"
+#[tactic(auto, using(crate::proofs::Laws::floor_found))]
 fn floor_of(b: Base) -> u32
     requires { Bounded b }
     ensures { result ≡ floor_of b }
 {
-    let hundred = 100 * b.denominator;
-    let whole = (70 * b.numerator + (hundred - 1)) / hundred;
+    let whole = (70 * b.numerator).div_ceil(100 * b.denominator);
     Ladder::legal_up(whole as u32)
 }
 
 // "With a prior close below 1.00 baht the floor is 0.01 and the ceiling twice the prior close."
+#[tactic(auto, using(crate::proofs::Laws::base_bounded), unfolding(definitions::specs::Ranges::range_of))]
 pub fn range_of(close: u32, f: Figures) -> Range
     requires { (sound_figures close f ≡ true) × (close ≤ last_price) }
     ensures { result ≡ range_of close f }
@@ -115,10 +106,11 @@ fn outside_base(b: Base, price: u32) -> bool
     requires { Bounded b × (legal price ≡ true) }
     ensures { result ≡ outside_range (range (floor_of b) (ceiling_of b)) price }
 {
-    let at = (price as u64) * (100 * b.denominator);
+    let at = u64::from(price) * (100 * b.denominator);
     (at < 70 * b.numerator) | ((1 < price) & (130 * b.numerator < at))
 }
 
+#[tactic(auto, using(crate::proofs::Laws::base_bounded), unfolding(definitions::specs::Ranges::range_of))]
 pub fn outside_range(close: u32, f: Figures, price: u32) -> bool
     requires { (sound_figures close f ≡ true) × (close ≤ last_price) × (legal price ≡ true) }
     ensures { result ≡ outside_range (range_of close f) price }

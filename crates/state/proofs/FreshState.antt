@@ -1,4 +1,4 @@
--- A fresh state, as two loops write it: every word cleared, then one lot after the other.
+-- A fresh state, as a loop writes it over words that are all 0: one lot after the other.
 -- Assumes nothing.
 use mathlib.Core.List.{List, ◌∷◌, ◌++◌, append_assoc, append-nil}
 use mathlib.Core.Path.{◌≡◌, ap, sym, ◌∙◌}
@@ -6,9 +6,8 @@ use Prim.Native.Nat.{ℕ, zero, suc, ◌+◌, ◌-◌, ◌*◌, ◌≤◌, ◌<�
 use native.Mathlib.Nat.{add_comm, mul-zero, mul-suc}
 use native.Mathlib.Numerals.{add-one}
 use native.Mathlib.Omega.{arith}
-use lib.ListN.{length, set, drop, replicate, length-set, length-append, length-replicate, replicate-append-replicate}
-use lib.Seq.{set_at, drop-length}
-use borrow.Author.Fill.{fill_more}
+use lib.ListN.{length, set, replicate, length-append, replicate-append-replicate}
+use lib.Seq.{set_at}
 use Rattle.definitions.specs.Lists.{repeat}
 use Rattle.definitions.specs.State.{security_size, desk_size, state_size, security_place, fresh_market, fresh}
 use Rattle.definitions.proofs.Fresh.{fresh_security}
@@ -28,26 +27,6 @@ repeat-last (suc n) xs r =
 repeat-next : (n : ℕ) (xs r : List ℕ) → repeat n xs ++ (xs ++ r) ≡ repeat (n + 1) xs ++ r
 repeat-next n xs r = rw (add-one n) (repeat-last n xs r)
 
--- a loop that clears words
-pub record Cleared (w₀ w : List ℕ) (i : ℕ) : Type 0 where
-  pub words : w ≡ replicate i 0 ++ drop i w₀
-  pub long : length w ≡ length w₀
-  pub to : i ≤ length w₀
-
-pub cleared-next : {w₀ w : List ℕ} {i : ℕ} → i < length w → Cleared w₀ w i → Cleared w₀ (set w i 0) (i + 1)
-cleared-next {w₀} {w} {i} h inv =
-    let here : i < length w₀ = omega (arith, inv.long) in
-    record {
-      words = rw inv.words (fill_more i 0 w₀ here);
-      long = length-set w i 0 ∙ inv.long;
-      to = omega arith;
-    }
-
-pub cleared-end : {w₀ w : List ℕ} {i : ℕ} → length w ≤ i → Cleared w₀ w i → w ≡ replicate (length w₀) 0
-cleared-end {w₀} {w} {i} h inv =
-    let end : i ≡ length w₀ = omega (arith, inv.long, inv.to) in
-    inv.words ∙ rw (end, drop-length w₀) (append-nil (replicate (length w₀) 0))
-
 -- a fresh state, one lot after the other
 abbrev pub lots : ℕ → List ℕ
 lots s = repeat s fresh_security
@@ -63,10 +42,10 @@ pub record Listed (customers securities : ℕ) (w : List ℕ) (s : ℕ) : Type 0
   pub words : w ≡ customers ∷ securities ∷ 0 ∷ 0 ∷ (lots s ++ replicate (left customers securities s) 0)
   pub to : s ≤ securities
 
-pub listed-none : {customers securities n : ℕ} {w : List ℕ} → w ≡ replicate n 0 → n ≡ state_size customers securities
+pub listed_none : {customers securities n : ℕ} {w : List ℕ} → w ≡ replicate n 0 → n ≡ state_size customers securities
     → Listed customers securities (set (set w 0 customers) 1 securities) 0
 unfolding repeat
-listed-none {customers} {securities} {n} e f =
+listed_none {customers} {securities} {n} e f =
     let size : n ≡ suc (suc (suc (suc (left customers securities 0)))) = omega arith in
     record { words = rw (e, size); to = omega arith }
 
@@ -88,15 +67,9 @@ listed_next {customers} {securities} {w} {s} h inv =
       to = omega arith;
     }
 
-pub listed-end : {customers securities : ℕ} {w : List ℕ} {s : ℕ} → securities ≤ s → Listed customers securities w s → w ≡ fresh customers securities
+pub listed_end : {customers securities : ℕ} {w : List ℕ} {s : ℕ} → securities ≤ s → Listed customers securities w s → w ≡ fresh customers securities
 unfolding fresh_market fresh
-listed-end {customers} {securities} {w} {s} h inv =
+listed_end {customers} {securities} {w} {s} h inv =
     let end : s ≡ securities = omega (arith, inv.to) in
     let desks : left customers securities securities ≡ desk_size * customers = omega arith in
     inv.words ∙ rw (end, desks)
-
-pub length-listed : {customers securities : ℕ} {w : List ℕ} {s : ℕ} → Listed customers securities w s → length w ≡ state_size customers securities
-length-listed {customers} {securities} {w} {s} inv =
-    ap length inv.words
-    ∙ rw (length-append (lots s) (replicate (left customers securities s) 0), length-lots s, length-replicate (left customers securities s) (_))
-    (omega (arith, inv.to))

@@ -22,6 +22,7 @@ pub fn desk_place(securities: u32, k: u32) -> usize
     security_place(securities) + DESK_SIZE * (k as usize)
 }
 
+#[tactic(auto, unfolding(definitions::specs::State::header_of, definitions::specs::Lists::part))]
 pub fn header_of(words: &[u32]) -> Header
     requires { header_size ≤ length words.now }
     ensures { result ≡ header_of words.now }
@@ -52,6 +53,7 @@ pub fn sizes_fit(customers: u32, securities: u32) -> bool
         & (securities <= MAX_SECURITIES)
 }
 
+#[tactic(auto, using(crate::proofs::Fits::no_header), unfolding(definitions::specs::State::state_fits))]
 pub fn state_fits(words: &[u32]) -> bool
     ensures { result ≡ state_fits words.now }
 {
@@ -66,13 +68,10 @@ pub fn state_fits(words: &[u32]) -> bool
         & (h.session <= PRE_CLOSE)
 }
 
+#[tactic(auto, unfolding(definitions::specs::Lists::put))]
 pub fn copy_in(dst: &mut [u32], at: usize, src: &[u32])
     requires { at + length src.now ≤ length dst.old }
     ensures { dst.new ≡ put dst.old at src.now }
 {
-    let mut i = 0;
-    while i < src.len() {
-        dst[at + i] = src[i];
-        i += 1;
-    }
+    dst[at..at + src.len()].copy_from_slice(src);
 }
