@@ -155,19 +155,20 @@ module _ {place : ℕ} {before : Desk} where
           ∙ ap (λ (m : ℕ). replicate m free_row) one in
           put z moved ∙ ap (λ l. with_rows l before) (ap (λ l. take (i + 1) left ++ l) (tail ∙ sym rest) ∙ take-append-drop (i + 1) left)
 
-    pub removing-end : desk_rows ≤ i + 1 → (z : Row) {r : Row} → r ≡ free_row → with_rows (set after.rows i r) after ≡ with_rows left before
-    removing-end h z e =
+    pub removing-end : desk_rows ≤ i + 1 → (z : Row) {r : Row} → r ≡ free_row → with_rows (set after.rows (desk_rows - 1) r) after ≡ with_rows left before
+    removing-end h z {r} e =
         let past : length rows ≤ i + 1 = omega (arith, c.whole) in
-        put z (e ∙ sym (last_of rows place i z c.from (omega (arith, c.whole, c.within))))
+        let last : desk_rows - 1 ≡ i = omega (arith, c.within) in
+        ap (λ (j : ℕ). with_rows (set after.rows j r) after) last
+        ∙ put z (e ∙ sym (last_of rows place i z c.from (omega (arith, c.whole, c.within))))
         ∙ ap (λ l. with_rows l before) (rw (take_all (i + 1) left (omega (arith, same)), drop_of_length-le rows past, append-nil))
 
--- A loop that looks for an order's place: none of the rows before i has gone, and the desk is as it was.
-pub record Placing (clock : ℕ) (before after : Desk) (i : ℕ) : Type 0 where
-  pub whole : length before.rows ≡ desk_rows
-  pub closed : close_up before.rows ≡ before.rows
+-- A loop that looks for an order's place: none of the rows before i has gone.
+pub record Placing (clock : ℕ) (rows : List Row) (i : ℕ) : Type 0 where
+  pub whole : length rows ≡ desk_rows
+  pub closed : close_up rows ≡ rows
   pub within : i ≤ desk_rows
-  pub kept : all (open_or_in_minute clock) (take i before.rows) ≡ true
-  pub desk : after ≡ before
+  pub kept : all (open_or_in_minute clock) (take i rows) ≡ true
 
 -- an open row, or one cancelled in the minute
 module _ (clock : ℕ) (r : Row) (kept : open_or_in_minute clock r ≡ true) where
@@ -194,25 +195,22 @@ map-free : (f : Row → Row) → f free_row ≡ free_row → (n : ℕ) → map f
 map-free f h zero = refl
 map-free f h (suc n) = ap₂ (λ (x : Row) (xs : List Row). x ∷ xs) h (map-free f h n)
 
-module _ {clock : ℕ} {before : Desk} where
-  pub placing-start : length before.rows ≡ desk_rows → close_up before.rows ≡ before.rows → Placing clock before before 0
+module _ {clock : ℕ} where
+  pub placing-start : {rows : List Row} → length rows ≡ desk_rows → close_up rows ≡ rows → Placing clock rows 0
   unfolding all
-  placing-start whole closed = record { whole = whole; closed = closed; within = omega arith; kept = refl; desk = refl }
+  placing-start whole closed = record { whole = whole; closed = closed; within = omega arith; kept = refl }
 
-  module _ {after : Desk} {i : ℕ} (c : Placing clock before after i) where
-    pub placing-next : i < desk_rows → (z : Row) {r : Row} → r ≡ get_or after.rows i z → open_or_in_minute clock r ≡ true → Placing clock before after (i + 1)
+  module _ {rows : List Row} {i : ℕ} (c : Placing clock rows i) where
+    pub placing-next : i < desk_rows → (z : Row) {r : Row} → r ≡ get_or rows i z → open_or_in_minute clock r ≡ true → Placing clock rows (i + 1)
     unfolding all
     placing-next h z {r} e kept =
-        let row : get_or before.rows i z ≡ r = ap (λ (x : Desk). get_or x.rows i z) (sym c.desk) ∙ sym e in
-        let next : take (i + 1) before.rows ≡ take i before.rows ++ (r ∷ []) = take_next before.rows i z (omega (arith, c.whole)) ∙ ap (λ (x : Row). take i before.rows ++ (x ∷ [])) row in
-        record { whole = c.whole; closed = c.closed; within = omega arith; kept = rw next (all_append (open_or_in_minute clock) (take i before.rows) (r ∷ []) c.kept (rw kept)); desk = c.desk }
+        let next : take (i + 1) rows ≡ take i rows ++ (r ∷ []) = take_next rows i z (omega (arith, c.whole)) ∙ ap (λ (x : Row). take i rows ++ (x ∷ [])) (sym e) in
+        record { whole = c.whole; closed = c.closed; within = omega arith; kept = rw next (all_append (open_or_in_minute clock) (take i rows) (r ∷ []) c.kept (rw kept)) }
 
     -- the rows before i are open or in their minute, and those from i on are free: none goes, and i is the place of a new row
-    none-gone : drop i before.rows ≡ replicate (desk_rows - i) free_row → (r : Row)
-        → with_rows (set after.rows i r) after ≡ with_rows (added_last r (edited (expired_row clock) before.rows)) before
+    none-gone : drop i rows ≡ replicate (desk_rows - i) free_row → (r : Row) → set rows i r ≡ added_last r (edited (expired_row clock) rows)
     unfolding edited
     none-gone tail r =
-        let rows = before.rows in
         let front = take i rows in
         let n = desk_rows - i in
         let split : front ++ replicate n free_row ≡ rows = ap (λ l. front ++ l) (sym tail) ∙ take-append-drop i rows in
@@ -225,19 +223,14 @@ module _ {clock : ℕ} {before : Desk} where
         ap (count marked) (sym split)
         ∙ count-append marked front (replicate n free_row)
         ∙ omega (arith, count-all marked front (all-weaken (open_or_in_minute clock) marked (in-minute-marked clock) front c.kept), length-take-le i rows (omega (arith, c.whole, c.within)), count-replicate marked n free_row refl) in
-        ap (λ (x : Desk). with_rows (set x.rows i r) x) c.desk
-        ∙ ap (λ (k : ℕ). with_rows (set rows k r) before) (sym marks)
-        ∙ ap (λ l. with_rows (added_last r l) before) (sym (ap close_up same ∙ c.closed))
+        ap (λ (k : ℕ). set rows k r) (sym marks) ∙ ap (added_last r) (sym (ap close_up same ∙ c.closed))
 
-    pub placing-free : i < desk_rows → (z : Row) → (get_or after.rows i z).mark ≡ free_mark → (r : Row)
-        → with_rows (set after.rows i r) after ≡ with_rows (added_last r (edited (expired_row clock) before.rows)) before
+    pub placing-free : i < desk_rows → (z : Row) → (get_or rows i z).mark ≡ free_mark → (r : Row) → set rows i r ≡ added_last r (edited (expired_row clock) rows)
     placing-free h z free r =
-        let mark : (get_or before.rows i z).mark ≡ free_mark = ap (λ (x : Desk). (get_or x.rows i z).mark) (sym c.desk) ∙ free in
-        none-gone (free-rows-from before.rows c.closed i z mark ∙ ap (λ (m : ℕ). replicate (m - i) free_row) c.whole) r
+        none-gone (free-rows-from rows c.closed i z free ∙ ap (λ (m : ℕ). replicate (m - i) free_row) c.whole) r
 
-    pub placing-full : desk_rows ≤ i → (r : Row) → after ≡ with_rows (added_last r (edited (expired_row clock) before.rows)) before
+    pub placing-full : desk_rows ≤ i → (r : Row) → rows ≡ added_last r (edited (expired_row clock) rows)
     placing-full h r =
         let none : desk_rows - i ≡ 0 = omega (arith, h) in
-        let size : length after.rows ≤ i = omega (arith, ap (λ (x : Desk). length x.rows) c.desk, c.whole) in
-        ap (λ rows. with_rows rows after) (sym (set_out after.rows i r size))
-        ∙ none-gone (drop_of_length-le before.rows {i = i} (omega (arith, c.whole)) ∙ ap (λ (m : ℕ). replicate m free_row) (sym none)) r
+        sym (set_out rows i r (omega (arith, c.whole)))
+        ∙ none-gone (drop_of_length-le rows {i = i} (omega (arith, c.whole)) ∙ ap (λ (m : ℕ). replicate m free_row) (sym none)) r

@@ -1,18 +1,19 @@
 -- The laws of a desk: the loops that change its rows, stated once over what becomes of one row, and when 32 rows are of a kind.
 -- Assumes nothing.
-use mathlib.Core.Bool.{Bool, true, false, cond, ◌||◌, not}
+use mathlib.Core.Bool.{Bool, true, false, cond, ◌&&◌}
 use mathlib.Core.List.{List, [], ◌∷◌, ◌++◌, map, map-append, append-nil}
 use mathlib.Core.Path.{◌≡◌, refl, ap, sym, ◌∙◌}
 use Prim.Native.Nat.{ℕ, suc, ◌+◌, ◌-◌, ◌≤◌, ◌<◌}
 use native.Mathlib.Omega.{arith}
 use lib.Dec.{eqb, eqb-suc-suc}
-use lib.ListN.{length, get_or, take, set, replicate, length-map, length-append, length-replicate}
+use lib.ListN.{length, get_or, take, set, replicate, length-map, length-append, length-replicate, length-set}
 use lib.Seq.{take_all, set_at, set_out, append_snoc}
 use borrow.Author.Tests.{eq-eqb, ne_eqb}
+use Rattle.std.specs.List.{list_all}
 use Rattle.definitions.specs.declared.Row.{Row}
 use Rattle.definitions.specs.declared.Desk.{Desk}
 use Rattle.definitions.specs.Codes.{desk_rows, free_mark}
-use Rattle.definitions.specs.Lists.{any, keep, count}
+use Rattle.definitions.specs.Lists.{keep, count}
 use Rattle.definitions.specs.Sound.{marked}
 use Rattle.definitions.specs.Desks.{free_row, close_up, edited, with_rows, changed, added_last}
 use Rattle.definitions.proofs.Lists.{take_next}
@@ -29,19 +30,19 @@ module _ {A : Type 0} (p : A → Bool) where
       go true e = ap (λ l. x ∷ l) e
       go false e = e
 
-  -- all elements are of a kind where none is of another
-  all-of-kind : (xs : List A) → not (any (λ x. not (p x)) xs) ≡ eqb (count p xs) (length xs)
-  unfolding any count keep
+  -- all elements are of a kind where as many are as there are elements
+  all-of-kind : (xs : List A) → list_all p xs ≡ eqb (count p xs) (length xs)
+  unfolding count keep
   all-of-kind [] = refl
   all-of-kind (x ∷ xs) = go (p x) (all-of-kind xs)
     where
-      go : (t : Bool) → not (any (λ x. not (p x)) xs) ≡ eqb (count p xs) (length xs)
-          → not (not t || any (λ x. not (p x)) xs) ≡ eqb (length (cond t (x ∷ keep p xs) (keep p xs))) (suc (length xs))
+      go : (t : Bool) → list_all p xs ≡ eqb (count p xs) (length xs)
+          → (t && list_all p xs) ≡ eqb (length (cond t (x ∷ keep p xs) (keep p xs))) (suc (length xs))
       go true below = below ∙ sym (eqb-suc-suc (count p xs) (length xs))
       go false below = sym (ne_eqb (count p xs) (suc (length xs)) (λ e. omega (arith, count-le p xs)))
 
-  pub none_other : (xs : List A) {found : Bool} {n : ℕ} → length xs ≡ n → found ≡ any (λ x. not (p x)) xs → not found ≡ eqb (count p xs) n
-  none_other xs h e = ap not e ∙ all-of-kind xs ∙ ap (eqb (count p xs)) h
+  pub all-counted : (xs : List A) {tested : Bool} {n : ℕ} → length xs ≡ n → tested ≡ list_all p xs → tested ≡ eqb (count p xs) n
+  all-counted xs size e = e ∙ all-of-kind xs ∙ ap (eqb (count p xs)) size
 
 -- the rows that are kept of a list, each as a change leaves it
 abbrev kept : (Row → Row) → List Row → List Row
@@ -60,6 +61,26 @@ put-at : (rows : List Row) (n : ℕ) (r : Row) → length rows ≡ n → n < des
 put-at rows n r e h =
     let more : desk_rows - n ≡ suc (desk_rows - (n + 1)) = omega arith in
     rw more (set_at rows free_row (replicate (desk_rows - (n + 1)) free_row) r n e ∙ sym (append_snoc rows r (replicate (desk_rows - (n + 1)) free_row)))
+
+-- what a closure answers, by its postcondition, is what f gives
+abbrev pub Computes : (Row → Row → Type 0) → (Row → Row) → Type 0
+Computes post f = (r left : Row) → post r left → left ≡ f r
+
+-- a loop over rows that puts some of them on `closed`: n of i
+pub record Putting (rows : List Row) (closed : Desk) (n i : ℕ) : Type 0 where
+  pub all : length rows ≡ desk_rows
+  pub size : length closed.rows ≡ desk_rows
+  pub few : n ≤ i
+
+pub putting-start : (d : Desk) {closed : Desk} → length d.rows ≡ desk_rows → closed ≡ with_rows (replicate desk_rows free_row) d → Putting d.rows closed 0 0
+putting-start d all e = record { all = all; size = ap (λ (x : Desk). length x.rows) e ∙ length-replicate desk_rows free_row; few = omega arith }
+
+module _ {rows : List Row} {closed : Desk} {n i : ℕ} (c : Putting rows closed n i) where
+  pub putting-kept : (r : Row) → Putting rows (with_rows (set closed.rows n r) closed) (n + 1) (i + 1)
+  putting-kept r = record { all = c.all; size = length-set closed.rows n r ∙ c.size; few = omega (arith, c.few) }
+
+  pub putting-free : Putting rows closed n (i + 1)
+  putting-free = record { all = c.all; size = c.size; few = omega (arith, c.few) }
 
 -- A loop over the rows of d that changes each by f and puts those that are kept on `closed`: i are passed, and n are put.
 pub record Closing (f : Row → Row) (d closed : Desk) (n i : ℕ) : Type 0 where
@@ -112,28 +133,21 @@ module _ {f : Row → Row} {d : Desk} where
           let size : desk_rows - n ≡ length (map f d.rows) - count marked (map f d.rows) = omega (arith, length-map d.rows f, c.whole, length-keep marked (map f d.rows), put_whole) in
           rw size at (rw passed at c.desk)
 
-      pub closing_end : closed ≡ changed f d
-      unfolding changed
-      closing_end = closed-rows
-
       place : count marked (edited f d.rows) ≡ n
       unfolding edited close_up
       place =
           count-append marked (kept f d.rows) (replicate (length (map f d.rows) - count marked (map f d.rows)) free_row)
           ∙ omega (arith, count-all marked (kept f d.rows) (all-kept marked (map f d.rows)), count-replicate marked (length (map f d.rows) - count marked (map f d.rows)) free_row refl, put_whole)
 
-    stays : desk_rows ≤ n → (r : Row) → closed ≡ with_rows (set closed.rows n r) closed
-    stays h r =
-        let rows : closed.rows ≡ kept f (take i d.rows) ++ replicate (desk_rows - n) free_row = ap (λ (x : Desk). x.rows) c.desk in
-        let size : length closed.rows ≤ n = rw (rows, length-append, length-replicate) (omega (arith, c.put)) in
-        ap (λ rows. with_rows rows closed) (sym (set_out closed.rows n r size))
+      pub closing_end : (closed ≡ changed f d) × (n ≡ count marked closed.rows)
+      unfolding changed
+      closing_end = (closed-rows, sym place ∙ ap (λ (x : Desk). count marked x.rows) (sym closed-rows))
 
--- a row added last stands at place n, and nowhere on a full desk
-module _ {f : Row → Row} {d closed : Desk} {n i : ℕ} (c : Closing f d closed n i) (h : desk_rows ≤ i) (r : Row) where
-  pub closing-added : with_rows (set closed.rows n r) closed ≡ with_rows (added_last r (edited f d.rows)) d
-  closing-added =
-      ap (λ (x : Desk). with_rows (set x.rows n r) x) (closed-rows c h)
-      ∙ ap (λ k. with_rows (set (edited f d.rows) k r) d) (sym (place c h))
+-- a row put behind those of a desk that is closed up is added last, and nowhere where the desk is full
+module _ (f : Row → Row) (d : Desk) {closed : Desk} {n : ℕ} (c : (closed ≡ changed f d) × (n ≡ count marked closed.rows)) (r : Row) where
+  pub put-last : with_rows (set closed.rows n r) closed ≡ with_rows (added_last r (edited f d.rows)) d
+  unfolding changed
+  put-last = rw c.1 (ap (λ (x : Desk). with_rows (added_last r x.rows) x) c.0)
 
-  pub closing-full : desk_rows ≤ n → closed ≡ with_rows (added_last r (edited f d.rows)) d
-  closing-full full = stays c full r ∙ closing-added
+  pub put-nowhere : length closed.rows ≡ desk_rows → desk_rows ≤ n → closed ≡ with_rows (added_last r (edited f d.rows)) d
+  put-nowhere all full = ap (λ rows. with_rows rows closed) (sym (set_out closed.rows n r (omega arith))) ∙ put-last

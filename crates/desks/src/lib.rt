@@ -3,8 +3,9 @@
 
 ghost use Rattle.std.specs.Prelude.{◌≡◌, ◌<◌, eqb, replicate};
 ghost use Rattle.definitions.specs.Codes.{desk_rows};
-ghost use Rattle.definitions.specs.Desks.{added, added_last, changed, close_up, desk, edited, expired_row, free_row, open_or_in_minute, session_row, with_rows};
+ghost use Rattle.definitions.specs.Desks.{added, added_last, changed, close_up, edited, expired_row, free_row, open_or_in_minute, session_row, with_rows};
 ghost use Rattle.definitions.specs.Lists.{count};
+ghost use Rattle.definitions.specs.Sound.{marked};
 ghost use Rattle.desks.specs.Place.{changed_at, removed_at};
 
 use definitions::codes::DESK_ROWS;
@@ -15,18 +16,7 @@ use desk_rows::{expired_row, free_row, open_or_in_minute, row_of_order, session_
 pub fn session_changed(d: Desk) -> Desk
     ensures { result ≡ changed session_row d }
 {
-    let mut closed = emptied(d.accepted, d.warned, d.rejected);
-    let mut n: usize = 0;
-    let mut i: usize = 0;
-    while i < DESK_ROWS {
-        let row = session_row(d.rows[i]);
-        i += 1;
-        if row.mark != 0 {
-            closed.rows[n] = row;
-            n += 1;
-        }
-    }
-    closed
+    closed_up(d, |row| session_row(row)).0
 }
 
 // The row at a place as an event leaves it: a row that it makes free goes, and the others close up.
@@ -48,16 +38,14 @@ fn removed(place: usize, d: Desk) -> Desk
     ensures { result ≡ with_rows (removed_at place d.rows) d }
 {
     let mut after = d;
-    let mut i = place;
-    while i + 1 < DESK_ROWS {
+    for i in place..DESK_ROWS - 1 {
         let next = after.rows[i + 1];
         after.rows[i] = next;
         if next.mark == 0 {
             return after;
         }
-        i += 1;
     }
-    after.rows[i] = free_row();
+    after.rows[DESK_ROWS - 1] = free_row();
     after
 }
 
@@ -68,17 +56,15 @@ pub fn added(clock: u32, o: Order, d: Desk) -> Desk
 {
     let last = row_of_order(o);
     let mut after = d;
-    let mut i: usize = 0;
-    while i < DESK_ROWS {
-        let row = after.rows[i];
+    for place in 0..DESK_ROWS {
+        let row = after.rows[place];
         if row.mark == 0 {
-            after.rows[i] = last;
+            after.rows[place] = last;
             return after;
         }
         if !open_or_in_minute(clock, row) {
             return added_last(clock, last, after);
         }
-        i += 1;
     }
     after
 }
@@ -87,49 +73,44 @@ pub fn added(clock: u32, o: Order, d: Desk) -> Desk
 fn added_last(clock: u32, last: Row, d: Desk) -> Desk
     ensures { result ≡ with_rows (added_last last (edited (expired_row clock) d.rows)) d }
 {
-    let mut closed = emptied(d.accepted, d.warned, d.rejected);
-    let mut n: usize = 0;
-    let mut i: usize = 0;
-    while i < DESK_ROWS {
-        let row = expired_row(clock, d.rows[i]);
-        i += 1;
-        if row.mark != 0 {
-            closed.rows[n] = row;
-            n += 1;
-        }
-    }
+    let (mut closed, place) = closed_up(d, |row| expired_row(clock, row));
     // Refusal 12 keeps an order from a full desk, which would stay as it is.
-    let place = n;
     if place < DESK_ROWS {
         closed.rows[place] = last;
     }
     closed
 }
 
+// Each row as an event leaves it: those that it makes free go, and the others close up. Beside the desk stands the place behind them.
+fn closed_up<F: Fn(Row) -> Row>(d: Desk, becomes: F) -> (Desk, usize)
+    requires { F.IsAlwaysCallable becomes }
+    ensures { (f : _) → ((r : _) (left : _) → F.post becomes r left → left ≡ f r) → (result.0 ≡ changed f d) × (result.1 ≡ count marked result.0.rows) }
+{
+    let mut closed = emptied(d);
+    let mut n: usize = 0;
+    for row in d.rows {
+        let left = becomes(row);
+        if left.mark != 0 {
+            closed.rows[n] = left;
+            n += 1;
+        }
+    }
+    (closed, n)
+}
+
 // 12: "open rows and rows cancelled at most 60,000 ms ago are 32", where no row of the 32 is neither.
 pub fn full(clock: u32, d: Desk) -> bool
     ensures { result ≡ eqb (count (open_or_in_minute clock) d.rows) desk_rows }
 {
-    let mut i: usize = 0;
-    while i < DESK_ROWS {
-        if !open_or_in_minute(clock, d.rows[i]) {
-            return false;
-        }
-        i += 1;
-    }
-    true
+    d.rows.iter().all(|row| open_or_in_minute(clock, *row))
 }
 
 // The desk that rows are put on one after the other, so that they close up.
-fn emptied(accepted: u32, warned: u32, rejected: u32) -> Desk
-    ensures { result ≡ desk accepted warned rejected (replicate desk_rows free_row) }
+fn emptied(d: Desk) -> Desk
+    ensures { result ≡ with_rows (replicate desk_rows free_row) d }
 {
-    let free = free_row();
-    let rows = [free; DESK_ROWS];
     Desk {
-        accepted: accepted,
-        warned: warned,
-        rejected: rejected,
-        rows: rows,
+        rows: [free_row(); DESK_ROWS],
+        ..d
     }
 }

@@ -2,16 +2,17 @@
 -- where the search for its number ended.
 -- Assumes nothing.
 use mathlib.Core.Bool.{Bool, true, false, cond, ◌&&◌, not}
-use mathlib.Core.List.{List, [], ◌∷◌}
+use mathlib.Core.List.{List}
 use mathlib.Core.Path.{◌≡◌, refl, ap, ap₂, sym, ◌∙◌}
-use Prim.Native.Nat.{ℕ, zero, suc, ◌<◌}
+use Prim.Native.Nat.{ℕ, ◌<◌}
 use native.Mathlib.Omega.{arith}
 use lib.Dec.{eqb}
 use lib.ListN.{length, get_or}
 use borrow.Author.Tests.{not-true, not-false}
+use Rattle.std.specs.List.{list_all}
+use Rattle.std.proofs.lemmas.List.Folds.{list_all_at}
 use Rattle.definitions.specs.declared.Header.{Header}
 use Rattle.definitions.specs.declared.Security.{Security}
-use Rattle.definitions.specs.declared.Row.{Row}
 use Rattle.definitions.specs.declared.Desk.{Desk}
 use Rattle.definitions.specs.declared.Order.{Order}
 use Rattle.definitions.specs.declared.Event.{Event}
@@ -19,31 +20,24 @@ use Rattle.definitions.specs.declared.Event.TheVariants as event
 use Rattle.definitions.specs.declared.Verdict.{Verdict}
 use Rattle.definitions.specs.Answers as answer
 use Rattle.definitions.specs.Codes.{desk_rows}
-use Rattle.definitions.specs.Lists.{any, count, first_met}
+use Rattle.definitions.specs.Lists.{count, first_met}
 use Rattle.definitions.specs.State.{header_of, security_at, desk_at, put_desk}
 use Rattle.definitions.specs.Sound.{sound_security, priced_as, marked, marked_first}
 use Rattle.definitions.specs.Desks.{free_row, open_or_in_minute, close_up, added, counted, takes_row, ordered}
 use Rattle.definitions.specs.Rules.{View, verdict_of}
 use Rattle.definitions.specs.Refusals.{holds_number, number_taken, desk_full}
 use Rattle.definitions.specs.Gate.{result_of, view_at, sound_security_at, sound_desk_at, records_sound, perform}
-use Rattle.definitions.proofs.Tests.{never, and_parts, and-whole, or-first, or-second}
+use Rattle.definitions.proofs.Tests.{never, and_parts, and-whole}
 use Rattle.definitions.proofs.State.{length-desk-rows}
 use Rattle.state_records.specs.declared.search.RowAt.{RowAt}
 use Rattle.state_records.specs.Search.{row_with}
 use Rattle.state_records.proofs.SearchLaws.{found-most, found-there, found-numbered}
-use Rattle.desks.proofs.Laws.{none_other}
+use Rattle.desks.proofs.Laws.{all-counted}
 use Rattle.desks.proofs.ClosedUp.{in-minute-marked}
 use Rattle.kind_contract.specs.First.{Ready, later_refusal, later_outcome}
 use Rattle.kind_contract.proofs.Laws.{unmet-first, later-refused, later-done, desk-sound, desk-closed}
 use Rattle.kind_contract.proofs.Done.{Left}
 use Rattle.one_row.proofs.OneRow.{row-asked, other-not-held}
-
--- one row is not of a kind: not all are
-other_at : (p : Row → Bool) (rows : List Row) (i : ℕ) (z : Row) → i < length rows → p (get_or rows i z) ≡ false → any (λ r. not (p r)) rows ≡ true
-unfolding any
-other_at p [] i z h other = absurd (omega (arith, h))
-other_at p (r ∷ rs) zero z h other = or-first (any (λ x. not (p x)) rs) (ap not other)
-other_at p (r ∷ rs) (suc i) z h other = or-second (not (p r)) (other_at p rs i z (omega (arith, h)) other)
 
 module _ (w : List ℕ) (k : ℕ) (o : Order) (ready : Ready w (event.Order k o)) {h : Header} {s : Security} {at : RowAt} (eh : h ≡ header_of w) (es : s ≡ security_at w o.security)
     (ea : at ≡ row_with o.number (desk_at w k).rows) where
@@ -95,8 +89,8 @@ module _ (w : List ℕ) (k : ℕ) (o : Order) (ready : Ready w (event.Order k o)
         let rows = (desk_at w k).rows in
         let below : at.place < length rows = omega (arith, found-most o.number rows ea, length-desk-rows w k) in
         let row : get_or rows at.place free_row ≡ at.row = found-there o.number rows ea below free_row in
-        let some : any (λ (r : Row). not (open_or_in_minute h.clock r)) rows ≡ true = other_at (open_or_in_minute h.clock) rows at.place free_row below (ap (open_or_in_minute h.clock) row ∙ gone (open_or_in_minute h.clock at.row) refl) in
-        rw ed (sym (none_other (open_or_in_minute h.clock) rows (length-desk-rows w k) (sym some)))
+        let other : list_all (open_or_in_minute h.clock) rows ≡ false = list_all_at (open_or_in_minute h.clock) rows at.place free_row below (ap (open_or_in_minute h.clock) row ∙ gone (open_or_in_minute h.clock at.row) refl) in
+        rw ed (sym (all-counted (open_or_in_minute h.clock) rows (length-desk-rows w k) (sym other)))
       where
         -- a marked row that was found has the number, and none that has it is open or in its minute
         gone : (t : Bool) → open_or_in_minute h.clock at.row ≡ t → t ≡ false

@@ -1,21 +1,15 @@
--- `desks::full` meets its contract: the loop stops at the first row that is neither open nor cancelled within a minute, and 32 are counted where there is none.
-use mathlib.Core.Bool.{not}
-use mathlib.Core.Path.{ap}
+-- `desks::full` meets its contract: where all 32 rows are open or cancelled within a minute, 32 are counted.
 use borrow.Author.Rules.{rules}
+use borrow.Author.Tests.{tests}
+use Rattle.std.proofs.lemmas.Iterator.{YieldsList-from_slice}
+use Rattle.std.proofs.lemmas.Iterator.Search.{all_from_yields_List}
+use Rattle.definitions.specs.Desks.{open_or_in_minute}
 use Rattle.definitions.proofs.Lists.{length-mapped}
-use Rattle.definitions.proofs.Tests.{known}
-use Rattle.desk_rows.proofs.Looking.{looking-start, looking-next, looking-end}
-use Rattle.desks.proofs.Laws.{none_other}
+use Rattle.desks.proofs.Laws.{all-counted}
 use Rattle.desks.proofs.full.Goals as goal
 
-pub loop-i-init : goal.loop-i-init
-loop-i-init c = looking-start (search (rules, length-mapped))
-
-pub returns-then-not-open_or_in_minute : goal.returns-then-not-open_or_in_minute
-returns-then-not-open_or_in_minute c = none_other _ _ c.loop-i.invariant.all (looking-next c.loop-i.invariant c.loop-i-test.true _ (ap not (known c.open_or_in_minute.ensures c.if-not-open_or_in_minute.true))).so_far
-
-pub loop-i-preserved : goal.loop-i-preserved
-loop-i-preserved c = looking-next c.loop-i.invariant c.loop-i-test.true _ (ap not (known c.open_or_in_minute.ensures c.if-not-open_or_in_minute.false))
-
 pub returns : goal.returns
-returns c = none_other _ _ c.loop-i.invariant.all (looking-end c.loop-i.invariant c.loop-i-test.false)
+returns c =
+    let rows = c.args.d.rows in
+    all-counted _ rows (search (rules, length-mapped))
+    (all_from_yields_List (open_or_in_minute c.args.clock) _ _ c.all.result c.all.ensures.ran (YieldsList-from_slice rows cc) (λ x b q k. search (rules, tests)))

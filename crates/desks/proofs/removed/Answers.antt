@@ -11,19 +11,12 @@ pub loop-i-init : goal.loop-i-init
 loop-i-init c = removing-start (search (rules, length-mapped)) c.requires.0 c.requires.1
 
 pub returns-then-next-eq0 : goal.returns-then-next-eq0
-returns-then-next-eq0 c = removing-free c.loop-i.invariant c.loop-i-test.true _ refl c.if-next-eq0.true
-
-pub loop-i-smaller : goal.loop-i-smaller
-loop-i-smaller c = omega (arith, c.loop-i-test.true)
+returns-then-next-eq0 c =
+    removing-free c.loop-i.invariant (omega (arith, c.loop-i-test.true)) _ refl c.if-next-eq0.true
 
 pub loop-i-preserved : goal.loop-i-preserved
-loop-i-preserved c = removing-next c.loop-i.invariant c.loop-i-test.true _ refl
-
-pub offset_bounds-after-i-2 : goal.offset_bounds-after-i-2
-offset_bounds-after-i-2 c = search (rules, c.loop-i.invariant.within)
-
-pub bounds-after-i-2 : goal.bounds-after-i-2
-bounds-after-i-2 c = c.loop-i.invariant.within
+loop-i-preserved c = removing-next c.loop-i.invariant (omega (arith, c.loop-i-test.true)) _ refl
 
 pub returns : goal.returns
-returns c = removing-end c.loop-i.invariant c.loop-i-test.false free_row c.free_row.ensures
+returns c =
+    removing-end c.loop-i.invariant (omega (arith, c.loop-i-test.false)) free_row c.free_row.ensures

@@ -1,11 +1,6 @@
 -- `desks::removed` meets its contract: each row from the place on is the next one, and the last is free.
-use Prim.Native.Nat.{◌-◌}
-use Rattle.definitions.specs.Codes.{desk_rows}
 use Rattle.desks.proofs.ClosedUp.{Removing}
 use Rattle.desks.proofs.removed.Given as goal
 
 abbrev pub invariant-loop-i : goal.invariant-loop-i
 invariant-loop-i l = Removing l.place l.initial.after l.after l.i
-
-abbrev pub decreases-loop-i : goal.decreases-loop-i
-decreases-loop-i l = desk_rows - l.i
