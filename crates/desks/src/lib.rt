@@ -16,7 +16,7 @@ use desk_rows::{expired_row, free_row, open_or_in_minute, row_of_order, session_
 pub fn session_changed(d: Desk) -> Desk
     ensures { result ≡ changed session_row d }
 {
-    closed_up(d, |row| session_row(row)).0
+    closed_up(d, session_row).0
 }
 
 // The row at a place as an event leaves it: a row that it makes free goes, and the others close up.

@@ -1,8 +1,9 @@
 // Rules W and P: an order against the customer's own rows.
 #![tactic(auto)]
 
-ghost use Rattle.std.specs.Prelude.{true, ◌≡◌, ◌*◌, leb};
-ghost use Rattle.definitions.specs.Sound.{marked_first};
+ghost use Rattle.std.specs.Prelude.{true, false, ◌≡◌, ◌*◌, leb};
+ghost use Rattle.definitions.specs.Lists.{any};
+ghost use Rattle.definitions.specs.Sound.{marked, marked_first};
 ghost use Rattle.definitions.specs.Rules.{own_opposite, would_trade_at_projected, would_trade, trades_with_own, rule_w, reenters, rule_p};
 ghost use Rattle.rule_rows.specs.Covered.{covered_by_p};
 
@@ -65,7 +66,6 @@ fn trades_with_own(session: u32, p: Prices, o: Order, r: Row) -> bool
     would_trade(session, p, o, r)
 }
 
-// Here and in rule_p the loop ends at the first row that is met, and at the first free row: "marked rows stand first".
 pub fn rule_w(m: MarketView, d: Desk, o: Order) -> bool
     requires { marked_first d.rows ≡ true }
     ensures { result ≡ rule_w (record { market = m; desk = d }) o }
@@ -73,20 +73,19 @@ pub fn rule_w(m: MarketView, d: Desk, o: Order) -> bool
     if o.channel != ONLINE {
         return false;
     }
-    let session = m.session;
     let p = prices_on(m.security, o.board);
-    let mut i: usize = 0;
-    while i < DESK_ROWS {
-        let r = d.rows[i];
-        if r.mark == 0 {
-            return false;
-        }
-        if trades_with_own(session, p, o, r) {
-            return true;
-        }
-        i += 1;
-    }
-    false
+    any_marked(&d.rows, |r| trades_with_own(m.session, p, o, r))
+}
+
+// Whether a marked row meets a test. The search ends at the first that does, and at the first free row: "marked rows stand first".
+fn any_marked<F: Fn(Row) -> bool>(rows: &[Row; DESK_ROWS], meets: F) -> bool
+    requires first { marked_first rows.now ≡ true }
+    requires callable { F.IsAlwaysCallable meets }
+    ensures { (p : _) → ((r : _) (met : _) → F.post meets r met → met ≡ p r) → ((r : _) → marked r ≡ false → p r ≡ false) → result ≡ any p rows.now }
+{
+    rows.iter()
+        .take_while(|row| row.mark != 0)
+        .any(|row| meets(*row))
 }
 
 // "twice the new volume being at least the cancelled volume", in 64 bits, where no volume makes the product wrap.
@@ -127,17 +126,5 @@ pub fn rule_p(m: MarketView, d: Desk, o: Order) -> bool
     if !covered_by_p(m.session, o) {
         return false;
     }
-    let clock = m.clock;
-    let mut i: usize = 0;
-    while i < DESK_ROWS {
-        let row = d.rows[i];
-        if row.mark == 0 {
-            return false;
-        }
-        if reenters(clock, o, row) {
-            return true;
-        }
-        i += 1;
-    }
-    false
+    any_marked(&d.rows, |r| reenters(m.clock, o, r))
 }
