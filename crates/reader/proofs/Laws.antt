@@ -2,7 +2,7 @@
 -- Assumes nothing.
 use mathlib.Core.Bool.{Bool, true, false, cond, ◌||◌}
 use mathlib.Core.List.{List, [], ◌∷◌, ◌++◌}
-use mathlib.Core.Path.{◌≡◌, refl}
+use mathlib.Core.Path.{◌≡◌, refl, ap, ◌∙◌}
 use Prim.Native.Nat.{ℕ, zero, suc, ◌+◌, ◌-◌, ◌≤◌, ◌<◌}
 use native.Mathlib.Nat.{add-zero}
 use native.Mathlib.Omega.{arith}
@@ -13,19 +13,19 @@ use borrow.Author.Tests.{ltb-false, eqb-false, lt-ltb, le-ltb, le-leb, lt-leb, e
 use Rattle.definitions.specs.Lists.{first_met}
 use Rattle.definitions.specs.Events.{length_of, bytes_conditions}
 use Rattle.definitions.specs.Walk.{taken, split}
-use Rattle.reader.specs.declared.Found.TheVariants.{Event, End}
-use Rattle.reader.specs.Places.{found_at}
+use Rattle.std.specs.Prelude.{Some, None}
+use Rattle.reader.specs.Places.{found_at, events_from}
 
 -- as `taken` has it, of the number of bytes left and of the length of their kind
 abbrev takes : ℕ → ℕ → ℕ
 takes left n = cond (eqb n 0 || ltb left n) left n
 
 module _ (b : List ℕ) (at : ℕ) where
-  pub no-event : length b ≤ at → End ≡ found_at b at
+  pub no-event : length b ≤ at → None ≡ found_at b at
   unfolding found_at
   no-event h = rw (le-leb _ _ h)
 
-  some-event : at < length b → found_at b at ≡ Event (at + taken (drop at b))
+  some-event : at < length b → found_at b at ≡ Some (at + taken (drop at b))
   unfolding found_at
   some-event h = rw (lt-leb _ _ h)
 
@@ -34,13 +34,13 @@ module _ (b : List ℕ) (at : ℕ) where
   taken_at of-kind = rw (length-drop, get_or-drop, add-zero, of-kind)
 
   module _ {n : ℕ} (some : at < length b) (of-kind : n ≡ length_of (get_or b at 0)) where
-    pub unknown-kind : n ≡ 0 → Event (at + (length b - at)) ≡ found_at b at
+    pub unknown-kind : n ≡ 0 → Some (at + (length b - at)) ≡ found_at b at
     unknown-kind e = rw (some-event some, taken_at of-kind, eq-eqb n 0 e)
 
-    pub short-event : (n ≡ 0 → ⊥) → length b - at < n → Event (at + (length b - at)) ≡ found_at b at
+    pub short-event : (n ≡ 0 → ⊥) → length b - at < n → Some (at + (length b - at)) ≡ found_at b at
     short-event known h = rw (some-event some, taken_at of-kind, ne_eqb n 0 known, lt-ltb (length b - at) n h)
 
-    pub whole-event : (n ≡ 0 → ⊥) → n ≤ length b - at → Event (at + n) ≡ found_at b at
+    pub whole-event : (n ≡ 0 → ⊥) → n ≤ length b - at → Some (at + n) ≡ found_at b at
     whole-event known h = rw (some-event some, taken_at of-kind, ne_eqb n 0 known, le-ltb (length b - at) n h)
 
 -- of some bytes, at least one and at most all
@@ -63,7 +63,7 @@ pub record EventAt (b : List ℕ) (at end : ℕ) : Type 0 where
   pub within : end ≤ length b
 
 module _ (b : List ℕ) (at : ℕ) where
-  pub event-at : (end : ℕ) → found_at b at ≡ Event end → EventAt b at end
+  pub event-at : (end : ℕ) → found_at b at ≡ Some end → EventAt b at end
   event-at end e =
       let over : length b ≤ at → ⊥ = λ h. let z : ◌≡◌ {A = ℕ} 0 1 = cc (no-event b at h) in omega arith in
       let some : at < length b = omega arith in
@@ -72,7 +72,7 @@ module _ (b : List ℕ) (at : ℕ) where
       let takes = taken_at b at refl in
       record { some = some; ends = ends; grows = omega arith; within = omega arith }
 
-  pub end-at : found_at b at ≡ End → length b ≤ at
+  pub end-at : found_at b at ≡ None → length b ≤ at
   end-at e =
       let more : at < length b → ⊥ = λ h. let z : ◌≡◌ {A = ℕ} 0 1 = cc (some-event b at h) in omega arith in
       omega arith
@@ -93,6 +93,39 @@ split-next n b at end here =
     let past : at + (end - at) ≡ end = omega (arith, here.grows) in
     rw (ne_eqb (length (drop at b)) 0 some, long, drop-drop (end - at) at b, past)
 
+-- an event takes one byte at least
+behind : (n : ℕ) (x : ℕ) (b : List ℕ) → length (x ∷ b) ≤ suc n → length (drop (taken (x ∷ b)) (x ∷ b)) ≤ n
+behind n x b h =
+    let least : 0 < taken (x ∷ b) = rw (taken_at (x ∷ b) 0 refl) (part (length (x ∷ b) - 0) (length_of x) (omega arith)).least in
+    omega (arith, length-drop (taken (x ∷ b)) (x ∷ b))
+
+-- bytes have no more events than bytes
+split-enough : (n m : ℕ) (b : List ℕ) → length b ≤ n → length b ≤ m → split n b ≡ split m b
+unfolding split
+split-enough zero zero b h k = refl
+split-enough zero (suc m) [] h k = refl
+split-enough zero (suc m) (x ∷ b) h k = absurd (omega arith)
+split-enough (suc n) zero [] h k = refl
+split-enough (suc n) zero (x ∷ b) h k = absurd (omega arith)
+split-enough (suc n) (suc m) [] h k = refl
+split-enough (suc n) (suc m) (x ∷ b) h k =
+    let rest : List ℕ = drop (taken (x ∷ b)) (x ∷ b) in
+    rw (ne_eqb (length (x ∷ b)) 0 (λ e. omega arith)) (ap (λ (es : List (List ℕ)). take (taken (x ∷ b)) (x ∷ b) ∷ es) (split-enough n m rest (behind n x b h) (behind m x b k)))
+
+-- the reader's events: none where nothing is found, and else the event that is found and those behind it
+module _ (b : List ℕ) (at : ℕ) where
+  pub none-from : found_at b at ≡ None → events_from b at ≡ []
+  none-from e = split-none (length (drop at b)) b at (end-at b at e)
+
+  pub next-from : (end : ℕ) → found_at b at ≡ Some end → events_from b at ≡ take (end - at) (drop at b) ∷ events_from b end
+  next-from end e =
+      let here = event-at b at end e in
+      let one_more : length (drop at b) ≡ suc (length b - (at + 1)) = omega (arith, length-drop at b, here.some) in
+      ap (λ (n : ℕ). split n (drop at b)) one_more
+      ∙ split-next (length b - (at + 1)) b at end here
+      ∙ ap (λ (es : List (List ℕ)). take (end - at) (drop at b) ∷ es)
+      (split-enough (length b - (at + 1)) (length (drop end b)) (drop end b) (omega (arith, length-drop end b, here.grows)) (omega arith))
+
 abbrev pub joined : List (List ℕ) → List ℕ
 joined [] = []
 joined (e ∷ es) = e ++ joined es
@@ -104,9 +137,7 @@ split-all zero [] h = refl
 split-all zero (x ∷ b) h = absurd (omega arith)
 split-all (suc n) [] h = refl
 split-all (suc n) (x ∷ b) h =
-    let least : 0 < taken (x ∷ b) = rw (taken_at (x ∷ b) 0 refl) (part (length (x ∷ b) - 0) (length_of x) (omega arith)).least in
-    let fewer : length (drop (taken (x ∷ b)) (x ∷ b)) ≤ n = omega (arith, length-drop (taken (x ∷ b)) (x ∷ b)) in
-    rw (ne_eqb (length (x ∷ b)) 0 (λ e. omega arith), split-all n (drop (taken (x ∷ b)) (x ∷ b)) fewer) (take-append-drop (taken (x ∷ b)) (x ∷ b))
+    rw (ne_eqb (length (x ∷ b)) 0 (λ e. omega arith), split-all n (drop (taken (x ∷ b)) (x ∷ b)) (behind n x b h)) (take-append-drop (taken (x ∷ b)) (x ∷ b))
 
 -- "`refused 2` or `refused 3` ends the listing": an event that others follow is whole
 pub whole_before : (b : List ℕ) → taken b < length b → first_met (bytes_conditions (take (taken b) b)) ≡ 0

@@ -3,37 +3,47 @@
 #![tactic(auto)]
 
 ghost use Rattle.std.specs.Prelude.{◌≡◌};
-ghost use Rattle.reader.specs.Places.{found_at};
+ghost use Rattle.std.specs.Iterator.{YieldsFirstRef, item_count};
+ghost use Rattle.reader.specs.Places.{found_at, events_from};
 
 use events::length_of;
 
-// What stands at a position: an event, with the position after its last byte, or nothing.
-#[derive(Clone, Copy)]
-pub enum Found {
-    Event(usize),
-    End,
-}
-
+// An iterator over the events from `at` on, each as its bytes.
 #[derive(Clone, Copy)]
 pub struct EventReader<'a> {
     pub bytes: &'a [u8],
     pub at: usize,
 }
 
-// "`refused 2` or `refused 3` ends the listing": what is no whole event takes all that is left.
-pub fn found_at(bytes: &[u8], at: usize) -> Found
+impl<'a> Iterator for EventReader<'a> {
+    type Item = &'a [u8];
+
+    ghost next_gives = { YieldsFirstRef (λ r. events_from r.bytes.now r.at) };
+
+    ghost remaining = { item_count (λ r. events_from r.bytes.now r.at) };
+
+    fn next(&mut self) -> Option<&'a [u8]> {
+        let end = found_at(self.bytes, self.at)?;
+        let event = &self.bytes[self.at..end];
+        self.at = end;
+        Some(event)
+    }
+}
+
+// Where the event at a position ends, if one stands there. "`refused 2` or `refused 3` ends the listing": what is no whole event takes all that is left.
+pub fn found_at(bytes: &[u8], at: usize) -> Option<usize>
     ensures { result ≡ found_at bytes.now at }
 {
     if bytes.len() <= at {
-        return Found::End;
+        return None;
     }
     let left = bytes.len() - at;
     let length = length_of(bytes[at]);
     let whole = if length == 0 { left } else { length };
     if left < whole {
-        return Found::Event(at + left);
+        return Some(at + left);
     }
-    Found::Event(at + whole)
+    Some(at + whole)
 }
 
 pub fn reader_at<'a>(bytes: &'a [u8], at: usize) -> EventReader<'a>
@@ -42,7 +52,8 @@ pub fn reader_at<'a>(bytes: &'a [u8], at: usize) -> EventReader<'a>
     EventReader { bytes, at }
 }
 
-pub fn next<'a>(r: EventReader<'a>) -> Found
+// Where the event that the reader stands at ends.
+pub fn next<'a>(r: EventReader<'a>) -> Option<usize>
     ensures { result ≡ found_at r.entry.bytes.now r.entry.at }
 {
     found_at(r.bytes, r.at)
@@ -56,7 +67,7 @@ pub fn moved<'a>(r: EventReader<'a>, at: usize) -> EventReader<'a>
 }
 
 // For a caller that holds the bytes and a position.
-pub fn next_event(bytes: &[u8], from: usize) -> Found
+pub fn next_event(bytes: &[u8], from: usize) -> Option<usize>
     ensures { result ≡ found_at bytes.now from }
 {
     next(reader_at(bytes, from))
