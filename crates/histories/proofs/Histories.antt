@@ -3,12 +3,14 @@
 use mathlib.Core.Bool.{Bool, true, false, cond}
 use mathlib.Core.List.{List, [], ◌∷◌, ◌++◌, map, append_assoc, append-nil}
 use mathlib.Core.Path.{◌≡◌, refl, ap, ap₂, sym, subst, ◌∙◌}
-use Prim.Native.Nat.{ℕ, suc, ◌+◌, ◌-◌, ◌≤◌, ◌<◌, min}
-use native.Mathlib.Nat.{add-sub_cancel_left}
+use Prim.Native.Nat.{ℕ, zero, suc, ◌+◌, ◌-◌, ◌≤◌, ◌<◌, min}
 use native.Mathlib.Numerals.{add-one}
 use native.Mathlib.Omega.{arith}
-use lib.ListN.{length, get_or, take, drop, set, drop_of_length-le, length-take, length-drop, length-set, take-append-drop}
-use lib.Seq.{take_all, drop-length, drop-drop, take-suc-set, drop-set-lt, get_or-take, take-append_seam, drop-append_seam, take_at}
+use lib.ListN.{length, get_or, take, drop, set, drop_of_length-le, length-drop, length-set, take-append-drop}
+use lib.Seq.{take_all, drop-drop, take-suc-set, drop-set-lt, take-append_seam, drop-append_seam, take_at}
+use Rattle.std.proofs.lemmas.Option.{cond_some}
+use lib.Dec.{ltb, leb}
+use borrow.Author.Tests.{ltb-true, ltb-false, leb-true, leb-false}
 use Rattle.definitions.specs.Lists.{keep}
 use Rattle.definitions.specs.State.{sizes_fit, fresh}
 use Rattle.definitions.specs.Gate.{event_words, event_answer, words_after, answers_to}
@@ -17,8 +19,10 @@ use Rattle.definitions.specs.Walk.{split}
 use Rattle.definitions.specs.Answers.{answer_number}
 use Rattle.definitions.proofs.Lists.{drop-next}
 use Rattle.definitions.proofs.Demands.{isolated, alike}
-use Rattle.reader.proofs.Laws.{EventAt, split-next, joined}
-use Rattle.histories.specs.Ran.{picked, Ran, cut, Ends, Alone}
+use Rattle.std.specs.Prelude.{Option, Some, None}
+use Rattle.reader.specs.Places.{found_at}
+use Rattle.reader.proofs.Laws.{event-at, end-at, split-none, split-next, joined}
+use Rattle.histories.specs.Ran.{picked, Ran, cut, Alone, handed, listed_end}
 
 -- every event is answered
 abbrev pub every : List ℕ → Bool
@@ -26,12 +30,6 @@ every b = true
 
 abbrev pub numbers : List ℕ → List (List ℕ) → List ℕ
 numbers w bs = map answer_number (answers_to every w bs)
-
-pub none_left : (most count : ℕ) (b : List ℕ) → most ≡ count → split (most - count) b ≡ []
-unfolding split
-none_left most count b e =
-    let nothing : most - count ≡ 0 = omega arith in
-    ap (λ (n : ℕ). split n b) nothing
 
 -- the numbers written to the events that a test picks are those of the answers to them
 picked-numbers : (p : List ℕ → Bool) (w : List ℕ) (bs : List (List ℕ)) → picked p bs (numbers w bs) ≡ map answer_number (answers_to p w bs)
@@ -117,85 +115,110 @@ module _ (w₀ : List ℕ) (history : List (List ℕ)) (a₀ w a : List ℕ) (le
             alone-after customers securities fit k below history (after ∙ ap (λ (u : List ℕ). words_after u history) start) (written ∙ ap (λ (u : List ℕ). numbers u history) start);
       }
 
--- a loop over events one after another in bytes
-pub record Walks (w₀ b a₀ w a : List ℕ) (at count : ℕ) : Type 0 where
-  pub room : count ≤ length a₀
-  pub within : at ≤ length b
-  pub so_far : SoFar w₀ (split (length a₀) b) a₀ w a (split (length a₀ - count) (drop at b)) count
+-- where nothing is found there is no event, and where an end is found the event goes up to it
+module _ (ends : ℕ → ℕ → Option ℕ) (b : List ℕ) (at count : ℕ) where
+  pub handed-none : (n : ℕ) → ends at count ≡ None → handed ends b n at count ≡ []
+  unfolding handed
+  handed-none zero none = refl
+  handed-none (suc n) none = rw (none, handed)
 
-pub walks-none : (w b a : List ℕ) → Walks w b a w a 0 0
-walks-none w b a =
+  pub handed-next : (n end : ℕ) → ends at count ≡ Some end → handed ends b (suc n) at count ≡ take (end - at) (drop at b) ∷ handed ends b n end (count + 1)
+  unfolding handed
+  handed-next n end some = rw (some, handed)
+
+-- a loop over the events that bytes hand in
+abbrev pub Turns : (ℕ → ℕ → Option ℕ) → List ℕ → List ℕ → List ℕ → List ℕ → List ℕ → ℕ → ℕ → Type 0
+Turns ends w₀ b a₀ w a at count = SoFar w₀ (handed ends b (length a₀) 0 0) a₀ w a (handed ends b (length a₀ - count) at count) count
+
+pub turns-none : (ends : ℕ → ℕ → Option ℕ) (w b a : List ℕ) → Turns ends w b a w a 0 0
+turns-none ends w b a =
     let none : length a ≡ length a - 0 = omega arith in
-    record {
-      room = omega arith;
-      within = omega arith;
-      so_far = subst (λ (n : ℕ). SoFar w (split (length a) b) a w a (split n b) 0) none (begin w a (split (length a) b));
-    }
+    subst (λ (n : ℕ). SoFar w (handed ends b (length a) 0 0) a w a (handed ends b n 0 0) 0) none (begin w a (handed ends b (length a) 0 0))
 
-pub walks_next : (w₀ b a₀ w a : List ℕ) (at count end : ℕ) {v : List ℕ} {x : ℕ} → Walks w₀ b a₀ w a at count → count < length a → EventAt b at end
-    → length v ≡ length w → v ≡ event_words w (take (end - at) (drop at b)) → x ≡ answer_number (event_answer w (take (end - at) (drop at b)))
-    → Walks w₀ b a₀ v (set a count x) end (count + 1)
-walks_next w₀ b a₀ w a at count end inv h here same ev ex =
-    let one_more : length a₀ - count ≡ suc (length a₀ - (count + 1)) = omega (arith, inv.so_far.long) in
-    record {
-      room = omega (arith, inv.so_far.long);
-      within = here.within;
-      so_far =
-          turn w₀ (split (length a₀) b) a₀ w a (split (length a₀ - count) (drop at b)) count inv.so_far (take (end - at) (drop at b)) (split (length a₀ - (count + 1)) (drop end b)) h
-          (ap (λ (n : ℕ). split n (drop at b)) one_more ∙ split-next (length a₀ - (count + 1)) b at end here)
-          same ev ex;
-    }
+module _ (ends : ℕ → ℕ → Option ℕ) (w₀ b a₀ w a : List ℕ) (at count : ℕ) (turns : Turns ends w₀ b a₀ w a at count) where
+  pub turns-next : (end : ℕ) {v : List ℕ} {x : ℕ} → count < length a → ends at count ≡ Some end
+      → length v ≡ length w → v ≡ event_words w (take (end - at) (drop at b)) → x ≡ answer_number (event_answer w (take (end - at) (drop at b)))
+      → Turns ends w₀ b a₀ v (set a count x) end (count + 1)
+  turns-next end h some same ev ex =
+      let left : ℕ = length a₀ - (count + 1) in
+      let one_more : length a₀ - count ≡ suc left = omega (arith, turns.long) in
+      turn w₀ (handed ends b (length a₀) 0 0) a₀ w a (handed ends b (length a₀ - count) at count) count turns (take (end - at) (drop at b)) (handed ends b left end (count + 1)) h
+      (ap (λ (n : ℕ). handed ends b n at count) one_more ∙ handed-next ends b at count left end some)
+      same ev ex
 
--- a loop over events by their lengths: the first that the answers have places for
-pub record Cuts (w₀ b ns a₀ w a : List ℕ) (at count : ℕ) : Type 0 where
-  pub room : count ≤ length a₀
-  pub within : at ≤ length b
-  pub so_far : SoFar w₀ (cut (take (length a₀) ns) b) a₀ w a (cut (drop count (take (length a₀) ns)) (drop at b)) count
+  -- no event is left, or no place for an answer
+  pub turns-end : ends at count ≡ None → Ran w₀ (handed ends b (length a₀) 0 0) a₀ count w a
+  turns-end none = finish w₀ _ a₀ w a _ count turns (handed-none ends b at count (length a₀ - count) none)
 
-pub cuts-none : (w b ns a : List ℕ) → Cuts w b ns a w a 0 0
-cuts-none w b ns a = record { room = omega arith; within = omega arith; so_far = begin w a (cut (take (length a) ns) b) }
+  pub turns-full : length a ≤ count → Ran w₀ (handed ends b (length a₀) 0 0) a₀ count w a
+  unfolding handed
+  turns-full full =
+      let nothing : length a₀ - count ≡ 0 = omega (arith, turns.long) in
+      finish w₀ _ a₀ w a _ count turns (ap (λ (n : ℕ). handed ends b n at count) nothing)
 
-pub ends-past : (b : List ℕ) (at n : ℕ) → at ≤ length b → length b - at < n → Ends b at n (length b)
-ends-past b at n h short =
-    let left : length (drop at b) ≡ length b - at = length-drop at b in
-    record {
-      grows = h;
-      within = omega arith;
-      event = take_all (length b - at) (drop at b) (omega arith) ∙ sym (take_all n (drop at b) (omega arith));
-      after = drop-length b ∙ sym (drop_of_length-le (drop at b) {i = n} (omega arith));
-    }
+-- the reader's events
+pub handed-split : (b : List ℕ) (n at count : ℕ) → handed (λ from _. found_at b from) b n at count ≡ split n (drop at b)
+unfolding handed split
+handed-split b zero at count = refl
+handed-split b (suc n) at count = go (found_at b at) refl (λ end. handed-split b n end (count + 1))
+  where
+    go : (found : Option ℕ) → found_at b at ≡ found → ((end : ℕ) → handed (λ from _. found_at b from) b n end (count + 1) ≡ split n (drop end b))
+        → handed (λ from _. found_at b from) b (suc n) at count ≡ split (suc n) (drop at b)
+    go None none more = handed-none (λ from _. found_at b from) b at count (suc n) none ∙ sym (split-none (suc n) b at (end-at b at none))
+    go (Some end) some more =
+        handed-next (λ from _. found_at b from) b at count n end some
+        ∙ ap (λ (es : List (List ℕ)). take (end - at) (drop at b) ∷ es) (more end)
+        ∙ sym (split-next n b at end (event-at b at end some))
 
-pub ends-within : (b : List ℕ) (at n : ℕ) → at ≤ length b → n ≤ length b - at → Ends b at n (at + n)
-ends-within b at n h room =
-    record {
-      grows = omega arith;
-      within = omega arith;
-      event = ap (λ (k : ℕ). take k (drop at b)) (add-sub_cancel_left at n);
-      after = sym (drop-drop n at b);
-    }
+-- as many bytes as are wanted, or those that are left
+module _ (b : List ℕ) (at n : ℕ) (h : at ≤ length b) where
+  listed-event : take (at + min n (length b - at) - at) (drop at b) ≡ take n (drop at b)
+  listed-event = go (leb n (length b - at)) refl
+    where
+      go : (t : Bool) → leb n (length b - at) ≡ t → take (at + min n (length b - at) - at) (drop at b) ≡ take n (drop at b)
+      go true e =
+          let room = leb-true n (length b - at) e in
+          let long : at + min n (length b - at) - at ≡ n = omega arith in
+          ap (λ (k : ℕ). take k (drop at b)) long
+      go false e =
+          let short = leb-false n (length b - at) e in
+          take_all (at + min n (length b - at) - at) (drop at b) (omega (arith, length-drop at b)) ∙ sym (take_all n (drop at b) (omega (arith, length-drop at b)))
 
-pub cuts-next : (w₀ b ns a₀ w a : List ℕ) (at count end : ℕ) {v : List ℕ} {x : ℕ} → Cuts w₀ b ns a₀ w a at count → count < length a → count < length ns → Ends b at (get_or ns count 0) end
-    → length v ≡ length w → v ≡ event_words w (take (end - at) (drop at b)) → x ≡ answer_number (event_answer w (take (end - at) (drop at b)))
-    → Cuts w₀ b ns a₀ v (set a count x) end (count + 1)
-unfolding cut
-cuts-next w₀ b ns a₀ w a at count end inv h some here same ev ex =
-    let listed : count < length (take (length a₀) ns) = omega (arith, length-take (length a₀) ns, inv.so_far.long) in
-    let first : get_or (take (length a₀) ns) count 0 ≡ get_or ns count 0 = get_or-take (length a₀) ns count 0 (omega (arith, inv.so_far.long)) in
-    record {
-      room = omega (arith, inv.so_far.long);
-      within = here.within;
-      so_far =
-          turn w₀ (cut (take (length a₀) ns) b) a₀ w a (cut (drop count (take (length a₀) ns)) (drop at b)) count inv.so_far (take (end - at) (drop at b)) (cut (drop (count + 1) (take (length a₀) ns)) (drop end b)) h
-          (rw (drop-next (take (length a₀) ns) count 0 listed, first, here.event, here.after))
-          same ev ex;
-    }
+  listed-rest : drop (at + min n (length b - at)) b ≡ drop n (drop at b)
+  listed-rest = go (leb n (length b - at)) refl
+    where
+      go : (t : Bool) → leb n (length b - at) ≡ t → drop (at + min n (length b - at)) b ≡ drop n (drop at b)
+      go true e =
+          let room = leb-true n (length b - at) e in
+          let long : at + min n (length b - at) ≡ at + n = omega arith in
+          ap (λ (k : ℕ). drop k b) long ∙ sym (drop-drop n at b)
+      go false e =
+          let short = leb-false n (length b - at) e in
+          drop_of_length-le b (omega arith) ∙ sym (drop_of_length-le (drop at b) {i = n} (omega (arith, length-drop at b)))
 
--- no length is left, or no place for an answer
-pub cuts-end : (ns b : List ℕ) (most count : ℕ) → min most (length ns) ≤ count → cut (drop count (take most ns)) b ≡ []
-unfolding cut
-cuts-end ns b most count h =
-    let past : length (take most ns) ≤ count = omega (arith, length-take most ns) in
-    ap (λ (ms : List ℕ). cut ms b) (drop_of_length-le (take most ns) past)
+pub listed-within : (b ns : List ℕ) (at count end : ℕ) → at ≤ length b → Some end ≡ listed_end b ns at count → (at ≤ end) × (end ≤ length b)
+listed-within b ns at count end h some =
+    let there = (cond_some (ltb count (length ns)) (at + min (get_or ns count 0) (length b - at)) end (sym some)).1 in
+    (omega arith, omega arith)
+
+-- the events by their lengths
+pub handed-cut : (b ns : List ℕ) (n at count : ℕ) → at ≤ length b → handed (listed_end b ns) b n at count ≡ cut (take n (drop count ns)) (drop at b)
+unfolding handed cut
+handed-cut b ns zero at count h = refl
+handed-cut b ns (suc n) at count h =
+    go (ltb count (length ns)) refl (handed-cut b ns n (at + min (get_or ns count 0) (length b - at)) (count + 1) (omega arith))
+  where
+    go : (t : Bool) → ltb count (length ns) ≡ t
+        → handed (listed_end b ns) b n (at + min (get_or ns count 0) (length b - at)) (count + 1) ≡ cut (take n (drop (count + 1) ns)) (drop (at + min (get_or ns count 0) (length b - at)) b)
+        → handed (listed_end b ns) b (suc n) at count ≡ cut (take (suc n) (drop count ns)) (drop at b)
+    go true e more =
+        let some : listed_end b ns at count ≡ Some (at + min (get_or ns count 0) (length b - at)) = rw e in
+        handed-next (listed_end b ns) b at count n _ some
+        ∙ rw (more, listed-event b at (get_or ns count 0) h, listed-rest b at (get_or ns count 0) h, drop-next ns count 0 (ltb-true count (length ns) e))
+    go false e more =
+        let none : listed_end b ns at count ≡ None = rw e in
+        handed-none (listed_end b ns) b at count (suc n) none
+        ∙ rw (drop_of_length-le ns (ltb-false count (length ns) e))
 
 -- every history can be handed in by its bytes and lengths
 pub every-history : (history : List (List ℕ)) → cut (map length history) (joined history) ≡ history

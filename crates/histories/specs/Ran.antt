@@ -1,5 +1,5 @@
 -- What handing a list of events to the gate leaves, and demand 3 of it.
-use Rattle.std.specs.Prelude.{Bool, true, cond, List, [], ◌∷◌, ◌++◌, map, ◌≡◌, ℕ, ◌-◌, ◌≤◌, ◌<◌, length, take, drop}
+use Rattle.std.specs.Prelude.{Bool, true, cond, List, [], ◌∷◌, ◌++◌, map, ◌≡◌, ℕ, zero, suc, ◌+◌, ◌-◌, ◌≤◌, ◌<◌, ltb, min, length, get_or, take, drop, Option, Some, None}
 use Rattle.definitions.specs.Lists.{keep}
 use Rattle.definitions.specs.State.{sizes_fit, fresh, desk_words}
 use Rattle.definitions.specs.Gate.{words_after, answers_to}
@@ -30,9 +30,19 @@ unfoldable pub cut : List ℕ → List ℕ → List (List ℕ)
 cut [] b = []
 cut (n ∷ ns) b = take n b ∷ cut ns (drop n b)
 
--- where an event ends that takes n bytes, or what is left
-pub record Ends (b : List ℕ) (at n end : ℕ) : Type 0 where
-  pub grows : at ≤ end
-  pub within : end ≤ length b
-  pub event : take (end - at) (drop at b) ≡ take n (drop at b)
-  pub after : drop end b ≡ drop n (drop at b)
+-- the history that bytes hand in, at most n events, from a position on and after a count of events, where `ends` has the end of the event at a position
+unfoldable pub handed : (ℕ → ℕ → Option ℕ) → List ℕ → ℕ → ℕ → ℕ → List (List ℕ)
+handed ends b zero at count = []
+handed ends b (suc n) at count = elim (ends at count) [ None ↦ [] | Some end ↦ take (end - at) (drop at b) ∷ handed ends b n end (count + 1) ]
+
+-- an event by its length, or by what is left of the bytes
+abbrev pub listed_end : List ℕ → List ℕ → ℕ → ℕ → Option ℕ
+listed_end b ns at count = cond (ltb count (length ns)) (Some (at + min (get_or ns count 0) (length b - at))) None
+
+-- of the calls that `post` speaks of, at a position within the bytes and after a count of events: an event ends behind its start and within the bytes
+abbrev pub EndsWithin : (ℕ → ℕ → Option ℕ → Type 0) → List ℕ → Type 0
+EndsWithin post b = (at count end : ℕ) → at ≤ length b → post at count (Some end) → (at ≤ end) × (end ≤ length b)
+
+-- and they give what `ends` has
+abbrev pub Gives : (ℕ → ℕ → Option ℕ → Type 0) → List ℕ → (ℕ → ℕ → Option ℕ) → Type 0
+Gives post b ends = (at count : ℕ) (end : Option ℕ) → at ≤ length b → post at count end → end ≡ ends at count

@@ -1,0 +1,34 @@
+-- `histories::run_by` meets its contract: after each turn, what is done and what is left make the whole.
+use mathlib.Core.Path.{◌≡◌, ap, sym, ◌∙◌}
+use native.Mathlib.Omega.{arith}
+use lib.ListN.{length}
+use Rattle.std.proofs.lemmas.List.{set-get_or}
+use Rattle.definitions.specs.Answers.{answer_number}
+use Rattle.gate.proofs.Outcomes.{Left}
+use Rattle.histories.proofs.Histories.{turns-none, turns-next, turns-end, turns-full}
+use Rattle.histories.proofs.run_by.Goals as goal
+
+pub loop-count-init : goal.loop-count-init
+loop-count-init g c = (omega arith, λ ends gives. turns-none ends _ _ _)
+
+pub returns-in_default : goal.returns-in_default
+returns-in_default g c ends gives =
+    let l = c.loop-count in
+    rw set-get_or (turns-end _ _ _ _ _ _ _ _ (l.invariant.1 ends gives) (sym (gives _ _ _ l.invariant.0 c.in_default.ensures)))
+
+pub loop-count-preserved : goal.loop-count-preserved
+loop-count-preserved g c =
+    let l = c.loop-count in
+    let done = c.handle in (
+      (c.requires.within _ _ _ l.invariant.0 c.in-Some.ensures).1,
+      λ ends gives.
+          turns-next _ _ _ _ _ _ _ _ (l.invariant.1 ends gives) _ (omega arith) (sym (gives _ _ _ l.invariant.0 c.in-Some.ensures)) done.auto.words
+          (ap (λ (x : Left). x.1) done.ensures)
+          (c.answer_number.ensures ∙ ap answer_number (ap (λ (x : Left). x.0) done.ensures)),
+    )
+
+pub returns : goal.returns
+returns g c ends gives =
+    let l = c.loop-count in
+    let all : l.count ≡ length l.answers = omega arith in
+    rw (← all) (turns-full _ _ _ _ _ _ _ _ (l.invariant.1 ends gives) (omega arith))
