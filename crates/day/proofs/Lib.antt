@@ -1,3 +1,1 @@
 mod Laws
-mod Listed
-mod Powers

@@ -1,4 +1,4 @@
--- What is said of words that are put at the start of lent bytes.
+-- What is said of bytes that are put at the start of lent bytes, and of the listing's lines.
 use Rattle.std.specs.Prelude.{List, [], ◌∷◌, ◌++◌, ◌≡◌, ◌≤◌, ℕ, length, take}
 use Rattle.std.specs.Fmt.{decimal}
 use Rattle.definitions.specs.Answers.{answer_text}
@@ -7,11 +7,6 @@ use Rattle.definitions.specs.Answers.{Answer}
 -- `&bytes[..n]` is in bounds and has n bytes
 abbrev pub IsPrefixLen : ℕ → List ℕ → Type 0
 IsPrefixLen n bytes = (n ≤ length bytes) × (n ≡ length (take n bytes))
-
--- the first n of the bytes are the words, and no more than the words
-pub record Opens (words : List ℕ) (n : ℕ) (bytes : List ℕ) : Type 0 where
-  pub within : IsPrefixLen n bytes
-  pub same : take n bytes ≡ words
 
 -- a line of the listing: an event's index, its kind byte and its answer, and the end of the line
 abbrev pub line_text : ℕ → ℕ → Answer → List ℕ

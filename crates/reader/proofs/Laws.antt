@@ -7,7 +7,7 @@ use Prim.Native.Nat.{ℕ, zero, suc, ◌+◌, ◌-◌, ◌≤◌, ◌<◌}
 use native.Mathlib.Nat.{add-zero}
 use native.Mathlib.Omega.{arith}
 use lib.Dec.{ltb, eqb}
-use lib.ListN.{length, get_or, take, drop, length-drop, drop_of_length-le, take-append-drop}
+use lib.ListN.{length, get_or, take, drop, length-take, length-drop, drop_of_length-le, take-append-drop}
 use lib.Seq.{get_or-drop, get_or-take, drop-drop, length-take-le}
 use borrow.Author.Tests.{ltb-false, eqb-false, lt-ltb, le-ltb, le-leb, lt-leb, eq-eqb, ne_eqb}
 use Rattle.definitions.specs.Lists.{first_met}
@@ -93,11 +93,29 @@ split-next n b at end here =
     let past : at + (end - at) ≡ end = omega (arith, here.grows) in
     rw (ne_eqb (length (drop at b)) 0 some, long, drop-drop (end - at) at b, past)
 
+-- no more events than are asked
+pub split-most : (n : ℕ) (b : List ℕ) → length (split n b) ≤ n
+unfolding split
+split-most zero b = omega arith
+split-most (suc n) [] = omega arith
+split-most (suc n) (x ∷ b) = rw (ne_eqb (length (x ∷ b)) 0 (λ e. omega arith)) (omega (arith, split-most n (drop (taken (x ∷ b)) (x ∷ b))))
+
 -- an event takes one byte at least
+least : (x : ℕ) (b : List ℕ) → 0 < taken (x ∷ b)
+least x b = rw (taken_at (x ∷ b) 0 refl) (part (length (x ∷ b) - 0) (length_of x) (omega arith)).least
+
+pub split-some : (n : ℕ) (b : List ℕ) {e : List ℕ} {es : List (List ℕ)} → split n b ≡ e ∷ es → 0 < length e
+unfolding split
+split-some zero b h = cc
+split-some (suc n) [] h = cc
+split-some (suc n) (x ∷ b) {e} {es} h =
+    let first : take (taken (x ∷ b)) (x ∷ b) ∷ split n (drop (taken (x ∷ b)) (x ∷ b)) ≡ e ∷ es = rw (ne_eqb (length (x ∷ b)) 0 (λ z. omega arith)) at h in
+    let same : take (taken (x ∷ b)) (x ∷ b) ≡ e = cc in
+    rw (← same) (omega (arith, length-take (taken (x ∷ b)) (x ∷ b), least x b))
+
 behind : (n : ℕ) (x : ℕ) (b : List ℕ) → length (x ∷ b) ≤ suc n → length (drop (taken (x ∷ b)) (x ∷ b)) ≤ n
 behind n x b h =
-    let least : 0 < taken (x ∷ b) = rw (taken_at (x ∷ b) 0 refl) (part (length (x ∷ b) - 0) (length_of x) (omega arith)).least in
-    omega (arith, length-drop (taken (x ∷ b)) (x ∷ b))
+    omega (arith, least x b, length-drop (taken (x ∷ b)) (x ∷ b))
 
 -- bytes have no more events than bytes
 split-enough : (n m : ℕ) (b : List ℕ) → length b ≤ n → length b ≤ m → split n b ≡ split m b

@@ -1,33 +1,37 @@
--- `day::list` meets its contract: each turn hands one event to `event`, and what the loop has done is said in `Listed.antt`.
-use mathlib.Core.Path.{sym, ap, ◌∙◌}
-use native.Mathlib.Omega.{arith}
-use denote.Ref.{Bor}
+-- `day::list` meets its contract: each turn hands one event to the gate, and the events that are left do the rest.
 use mathlib.Core.List.{List}
-use Prim.Native.Nat.{ℕ}
-use Rattle.reader.proofs.Laws.{event-at, end-at}
-use Rattle.day.proofs.Listed.{turn, finish}
+use mathlib.Core.Logic.{inl}
+use mathlib.Core.Path.{◌≡◌, ap, sym, ◌∙◌}
+use Prim.Native.Nat.{ℕ, ◌≤◌}
+use native.Mathlib.Omega.{arith}
+use lib.ListN.{length}
+use Rattle.std.specs.Iterator.Adapters.{enumerate_source, enumerate_count}
+use Rattle.definitions.specs.Gate.{words_after}
+use Rattle.gate.proofs.Outcomes.{Left}
+use Rattle.reader.specs.Places.{events_of, events_from}
+use Rattle.reader.proofs.Laws.{split-most, split-some}
 use Rattle.day.proofs.list.Goals as goal
 
-pub returns-in_default : goal.returns-in_default
-returns-in_default g c =
-    let l = c.loop-end in
-    finish _ _ _ _ _ l.invariant.1 (end-at _ _ (rw l.invariant.0 at (sym c.in_default.ensures)))
+pub loop-index-init-derived : goal.loop-index-init-derived
+loop-index-init-derived g c =
+    let all = c.into_iter-index-iterator.result in
+    let from = c.enumerate-index-items.ensures in
+    let none : enumerate_count all ≡ 0 = ap enumerate_count c.into_iter-index-iterator.ensures.into_iter_gives ∙ from.count in
+    let reader : enumerate_source all ≡ c.reader_at.result = ap enumerate_source c.into_iter-index-iterator.ensures.into_iter_gives ∙ from.source in
+    let fewer : length (events_of c.args.bytes.now) ≤ length c.args.bytes.now = split-most (length c.args.bytes.now) c.args.bytes.now in
+    rw (none, reader, c.reader_at.ensures.0, c.reader_at.ensures.1) ((tt, tt, inl (omega (arith, fewer))), tt)
 
-pub event-one-requires : goal.event-one-requires
-event-one-requires g c =
-    let here = event-at _ _ _ (sym c.in-Event.ensures) in
-    (here.grows, here.within)
+pub bounds-event-0 : goal.bounds-event-0
+bounds-event-0 g c = split-some _ _ c.in-Some.ensures.steps.0
 
-pub loop-end-smaller : goal.loop-end-smaller
-loop-end-smaller g c =
-    let l = c.loop-end in
-    let here = event-at _ _ _ (rw l.invariant.0 at (sym c.in-Event.ensures)) in
-    omega (arith, here.grows, here.within, c.moved-r.ensures.1)
+pub loop-index-preserved : goal.loop-index-preserved
+unfolding words_after
+loop-index-preserved g c =
+    let left = events_from c.next.new.self.iter.bytes.now c.next.new.self.iter.at in
+    ap (λ (u : List ℕ). words_after u left) (ap (λ (x : Left). x.1) c.handle-answer.ensures)
+    ∙ ap (words_after c.loop-index.words) (sym c.in-Some.ensures.steps.0)
+    ∙ c.loop-index.invariant
 
-pub loop-end-preserved : goal.loop-end-preserved
-loop-end-preserved g c =
-    let l = c.loop-end in
-    let here = event-at _ _ _ (rw l.invariant.0 at (sym c.in-Event.ensures)) in (
-      ap (λ (b : Bor (List ℕ)). b.now) c.moved-r.ensures.0 ∙ l.invariant.0,
-      rw c.moved-r.ensures.1 (turn _ _ _ _ _ l.invariant.1 _ here c.event-one.auto.words (rw l.invariant.0 at c.event-one.ensures)),
-    )
+pub returns : goal.returns
+unfolding words_after
+returns g c = let h = c.in-None.ensures in ap (words_after c.loop-index.words) (sym c.in-None.ensures.steps.0.0) ∙ c.loop-index.invariant

@@ -1,12 +1,8 @@
--- What the loop over the events has done: the events that are left do the rest. Each event ends behind where it begins.
+-- What the loop over the events has done: the events that are left do the rest.
 use mathlib.Core.Path.{◌≡◌}
-use Prim.Native.Nat.{◌-◌}
-use lib.ListN.{length}
-use Rattle.day.proofs.Listed.{SoFar}
+use Rattle.definitions.specs.Gate.{words_after}
+use Rattle.reader.specs.Places.{events_of, events_from}
 use Rattle.day.proofs.list.Given as goal
 
-abbrev pub invariant-loop-end : goal.invariant-loop-end
-invariant-loop-end g l = (l.r.bytes.now ≡ l.bytes) × SoFar l.initial.words l.bytes l.words l.r.at l.index
-
-abbrev pub decreases-loop-end : goal.decreases-loop-end
-decreases-loop-end g l = length l.bytes - l.r.at
+abbrev pub invariant-loop-index : goal.invariant-loop-index
+invariant-loop-index g l = words_after l.words (events_from l.index-iterator.iter.bytes.now l.index-iterator.iter.at) ≡ words_after l.initial.words (events_of l.bytes)
