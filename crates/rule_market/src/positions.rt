@@ -13,20 +13,14 @@ use rule_references::{in_auction, reference_10};
 fn ten_down(position: u32) -> u32
     ensures { result ≡ position - 10 }
 {
-    if position < 10 {
-        return 0;
-    }
-    position - 10
+    position.saturating_sub(10)
 }
 
 // The last position, where the ladder ends less than ten above.
 fn ten_up(position: u32) -> u32
     ensures { result ≡ min (position + 10) positions }
 {
-    if Ladder::POSITIONS - 10 < position {
-        return Ladder::POSITIONS;
-    }
-    position + 10
+    position.saturating_add(10).min(Ladder::POSITIONS)
 }
 
 // Position 0 has the absent price, and so has a price off the ladder.

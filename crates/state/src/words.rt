@@ -68,10 +68,12 @@ pub fn state_fits(words: &[u32]) -> bool
         & (h.session <= PRE_CLOSE)
 }
 
-#[tactic(auto, unfolding(definitions::specs::Lists::put))]
+#[tactic(auto, using(crate::proofs::Copied::copied_next, crate::proofs::Copied::copied_all))]
 pub fn copy_in(dst: &mut [u32], at: usize, src: &[u32])
     requires { at + length src.now ≤ length dst.old }
     ensures { dst.new ≡ put dst.old at src.now }
 {
-    dst[at..at + src.len()].copy_from_slice(src);
+    for (i, word) in src.iter().enumerate() {
+        dst[at + i] = *word;
+    }
 }

@@ -16,7 +16,6 @@ use Rattle.definitions.specs.declared.Row.{Row}
 use Rattle.definitions.specs.declared.Desk.{Desk}
 use Rattle.definitions.specs.State.{row_size, counters_size, desk_size, header_of, row_of, row_words, rows_of, rows_words, desk_place, desk_of, desk_at, desk_words, put_desk}
 use Rattle.definitions.specs.Codes.{desk_rows}
-use Rattle.definitions.specs.Desks.{desk, with_rows}
 
 -- the code's part of a slice from a place on
 pub part-is : (w : List ℕ) (place n : ℕ) {at : ℕ} → at ≡ place → take (at + n - at) (drop at w) ≡ part w place n
@@ -78,33 +77,33 @@ rows-part w k {at} e =
     drop-take counters_size desk_size (drop place w) ∙ ap (take (row_size * desk_rows)) (drop-drop counters_size place w ∙ ap (λ (n : ℕ). drop (n + counters_size) w) (sym e)) in
     rw (size, rows)
 
--- the desk read so far: its counters, and the rows that the definition reads first
-pub record Read (w : List ℕ) (d : Desk) (i : ℕ) : Type 0 where
-  pub counters : with_rows [] d ≡ desk (get_or w 0 0) (get_or w 1 0) (get_or w 2 0) []
-  pub first : take i d.rows ≡ rows_of i (drop counters_size w)
-  pub long : length d.rows ≡ desk_rows
+-- the rows read so far are those that the definition reads first
+pub record Read (w : List ℕ) (rows : List Row) (i : ℕ) : Type 0 where
+  pub first : take i rows ≡ rows_of i (drop counters_size w)
+  pub long : length rows ≡ desk_rows
   pub to : i ≤ desk_rows
 
-pub read_next : (w : List ℕ) (d : Desk) (i : ℕ) (r : Row) → i < desk_rows → Read w d i
-    → r ≡ row_of (take (counters_size + row_size * i + row_size - (counters_size + row_size * i)) (drop (counters_size + row_size * i) w)) → Read w (with_rows (set d.rows i r) d) (i + 1)
-read_next w d i r h inv e =
-    let here : i < length d.rows = omega (arith, inv.long) in
+pub read_none : (w : List ℕ) (rows : List Row) → length rows ≡ desk_rows → Read w rows 0
+unfolding rows_of
+read_none w rows all = record { first = refl; long = all; to = omega arith }
+
+pub read_next : (w : List ℕ) (rows : List Row) (i : ℕ) (r : Row) → i < desk_rows → Read w rows i
+    → r ≡ row_of (take (counters_size + row_size * i + row_size - (counters_size + row_size * i)) (drop (counters_size + row_size * i) w)) → Read w (set rows i r) (i + 1)
+read_next w rows i r h inv e =
+    let here : i < length rows = omega (arith, inv.long) in
     let row : r ≡ row_of (take row_size (drop (row_size * i) (drop counters_size w))) =
     e ∙ rw (add-sub_cancel_left (counters_size + row_size * i) row_size, drop-drop (row_size * i) counters_size w) in
     record {
-      counters = inv.counters;
       first =
-          rw (add-one i, take-suc-set d.rows i r here, inv.first, row) (sym (rows-suc i (drop counters_size w)));
-      long = length-set d.rows i r ∙ inv.long;
+          rw (add-one i, take-suc-set rows i r here, inv.first, row) (sym (rows-suc i (drop counters_size w)));
+      long = length-set rows i r ∙ inv.long;
       to = omega arith;
     }
 
-pub read_all : (w : List ℕ) (d : Desk) (i : ℕ) → desk_rows ≤ i → Read w d i → d ≡ desk_of w
-unfolding desk_of
-read_all w d i h inv =
+pub read_all : (w : List ℕ) (rows : List Row) (i : ℕ) → desk_rows ≤ i → Read w rows i → rows ≡ rows_of desk_rows (drop counters_size w)
+read_all w rows i h inv =
     let end : i ≡ desk_rows = omega (arith, inv.to) in
-    let rows : d.rows ≡ rows_of desk_rows (drop counters_size w) = sym (take_all desk_rows d.rows (omega (arith, inv.long))) ∙ rw end at inv.first in
-    ap (with_rows d.rows) inv.counters ∙ ap (desk (get_or w 0 0) (get_or w 1 0) (get_or w 2 0)) rows
+    sym (take_all desk_rows rows (omega (arith, inv.long))) ∙ rw end at inv.first
 
 -- the words of rows one after the other
 rows-words-snoc : (rs : List Row) (r : Row) → rows_words (rs ++ (r ∷ [])) ≡ rows_words rs ++ row_words r

@@ -171,16 +171,16 @@ module _ {number : ℕ} {w : List ℕ} where
         rw (here, same)
 
     module _ (h : i < desk_rows) where
-      pub sought-next : (eqb (get_or w (row_size * i + 1) 0) number || eqb (get_or w (row_size * i) 0) 0) ≡ false → Sought number w (i + 1)
+      pub sought_next : (eqb (get_or w (row_size * i + 1) 0) number || eqb (get_or w (row_size * i) 0) 0) ≡ false → Sought number w (i + 1)
       unfolding place_of
-      sought-next other =
+      sought_next other =
           let passed : place_of number (drop i (rows_of desk_rows w)) ≡ suc (place_of number (drop (i + 1) (rows_of desk_rows w))) = rw (rows_next i w h, row_ends number w i, other) in
           record { so_far = omega (arith, passed, c.so_far); to = omega arith }
 
-      pub sought-here : (eqb (get_or w (row_size * i + 1) 0) number || eqb (get_or w (row_size * i) 0) 0) ≡ true
+      pub sought_here : (eqb (get_or w (row_size * i + 1) 0) number || eqb (get_or w (row_size * i) 0) 0) ≡ true
           → {row : Row} → row ≡ row_of (take (row_size * i + row_size - row_size * i) (drop (row_size * i) w)) → record { place = i; row = row } ≡ row_with number (rows_of desk_rows w)
       unfolding place_of
-      sought-here it same =
+      sought_here it same =
           let next = rows_next i w h in
           let there : i + 0 ≡ i = omega arith in
           ended (rw (next, row_ends number w i, it))
@@ -188,8 +188,8 @@ module _ {number : ℕ} {w : List ℕ} where
           ∙ rw (add-sub_cancel_left (row_size * i) row_size)
           (ap (λ l. get_or l 0 free_row) (sym next) ∙ get_or-drop i (rows_of desk_rows w) 0 free_row ∙ ap (λ n. get_or (rows_of desk_rows w) n free_row) there))
 
-    pub sought-end : desk_rows ≤ i → {row : Row} → row ≡ free_row → record { place = i; row = row } ≡ row_with number (rows_of desk_rows w)
+    pub sought_end : desk_rows ≤ i → {row : Row} → row ≡ free_row → record { place = i; row = row } ≡ row_with number (rows_of desk_rows w)
     unfolding place_of
-    sought-end h same =
+    sought_end h same =
         let past : length (rows_of desk_rows w) ≤ i = omega (arith, length-rows desk_rows w) in
         ended (ap (place_of number) (drop_of_length-le (rows_of desk_rows w) past)) (same ∙ sym (get_or-eq_default (rows_of desk_rows w) free_row past))

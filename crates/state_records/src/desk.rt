@@ -7,6 +7,7 @@ use definitions::{Desk, Row};
 use desk_rows::free_row;
 use state::{copy_in, desk_place_in};
 
+#[tactic(auto, unfolding(definitions::specs::State::row_of))]
 pub fn row_of(words: &[u32]) -> Row
     requires { length words.now ≡ row_size }
     ensures { result ≡ row_of words.now }
@@ -29,23 +30,20 @@ fn desk_of(words: &[u32]) -> Desk
     requires { length words.now ≡ desk_size }
     ensures { result ≡ desk_of words.now }
 {
-    let free = free_row();
-    let rows = [free; DESK_ROWS];
     let mut d = Desk {
         accepted: words[0],
         warned: words[1],
         rejected: words[2],
-        rows,
+        rows: [free_row(); DESK_ROWS],
     };
-    let mut i = 0;
-    while i < DESK_ROWS {
+    for (i, row) in d.rows.iter_mut().enumerate() {
         let at = COUNTERS_SIZE + ROW_SIZE * i;
-        d.rows[i] = row_of(&words[at..at + ROW_SIZE]);
-        i += 1;
+        *row = row_of(&words[at..at + ROW_SIZE]);
     }
     d
 }
 
+#[tactic(auto, unfolding(definitions::specs::State::desk_at, definitions::specs::Lists::part))]
 pub fn desk_at(words: &[u32], k: u32) -> Desk
     requires { desk_place (header_of words.now).securities k + desk_size ≤ length words.now }
     ensures { result ≡ desk_at words.now k }
@@ -54,6 +52,7 @@ pub fn desk_at(words: &[u32], k: u32) -> Desk
     desk_of(&words[from..from + DESK_SIZE])
 }
 
+#[tactic(auto, unfolding(definitions::specs::State::row_words))]
 fn row_words(r: Row) -> [u32; ROW_SIZE]
     ensures { result ≡ row_words r }
 {
@@ -76,10 +75,7 @@ pub fn put_desk(words: &mut [u32], k: u32, d: Desk)
 {
     let at = desk_place_in(words, k);
     copy_in(words, at, &[d.accepted, d.warned, d.rejected]);
-    let mut i = 0;
-    while i < DESK_ROWS {
-        let row = d.rows[i];
-        copy_in(words, at + COUNTERS_SIZE + ROW_SIZE * i, &row_words(row));
-        i += 1;
+    for (i, row) in d.rows.iter().enumerate() {
+        copy_in(words, at + COUNTERS_SIZE + ROW_SIZE * i, &row_words(*row));
     }
 }

@@ -17,12 +17,12 @@ pub struct RowAt {
     pub row: Row,
 }
 
+#[tactic(auto, using(crate::proofs::SearchLaws::sought_next, crate::proofs::SearchLaws::sought_here, crate::proofs::SearchLaws::sought_end))]
 fn row_in(rows: &[u32], number: u32) -> RowAt
     requires { length rows.now ≡ row_size * desk_rows }
     ensures { result ≡ row_with number (rows_of desk_rows rows.now) }
 {
-    let mut i: usize = 0;
-    while i < DESK_ROWS {
+    for i in 0..DESK_ROWS {
         let at = ROW_SIZE * i;
         if (rows[at + 1] == number) | (rows[at] == 0) {
             return RowAt {
@@ -30,10 +30,9 @@ fn row_in(rows: &[u32], number: u32) -> RowAt
                 row: row_of(&rows[at..at + ROW_SIZE]),
             };
         }
-        i += 1;
     }
     RowAt {
-        place: i,
+        place: DESK_ROWS,
         row: free_row(),
     }
 }

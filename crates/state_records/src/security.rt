@@ -6,6 +6,7 @@ use definitions::codes::SECURITY_SIZE;
 use definitions::{Figures, Prices, PriorPrices, Security, Terms};
 use state::{copy_in, security_place};
 
+#[tactic(auto, unfolding(definitions::specs::State::security_of))]
 fn security_of(words: &[u32]) -> Security
     requires { length words.now ≡ security_size }
     ensures { result ≡ security_of words.now }
@@ -46,6 +47,7 @@ fn security_of(words: &[u32]) -> Security
     }
 }
 
+#[tactic(auto, unfolding(definitions::specs::State::security_at, definitions::specs::Lists::part))]
 pub fn security_at(words: &[u32], s: u32) -> Security
     requires { security_place s + security_size ≤ length words.now }
     ensures { result ≡ security_at words.now s }
@@ -54,6 +56,7 @@ pub fn security_at(words: &[u32], s: u32) -> Security
     security_of(&words[at..at + SECURITY_SIZE])
 }
 
+#[tactic(auto, unfolding(definitions::specs::State::security_words))]
 fn security_words(x: Security) -> [u32; SECURITY_SIZE]
     ensures { result ≡ security_words x }
 {
@@ -78,6 +81,7 @@ fn security_words(x: Security) -> [u32; SECURITY_SIZE]
     ]
 }
 
+#[tactic(auto, unfolding(definitions::specs::State::put_security))]
 pub fn put_security(words: &mut [u32], s: u32, x: Security)
     requires { security_place s + security_size ≤ length words.old }
     ensures { words.new ≡ put_security words.old s x }

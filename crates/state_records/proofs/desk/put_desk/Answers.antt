@@ -1,5 +1,5 @@
 -- `state_records::desk::put_desk` meets its contract: after the counters, each turn puts a row next to those before it.
-use mathlib.Core.Path.{◌≡◌, ◌∙◌}
+use mathlib.Core.Path.{◌≡◌}
 use lib.ListN.{length}
 use Prim.Native.Nat.{◌+◌, ◌*◌, ◌≤◌}
 use native.Mathlib.Omega.{arith}
@@ -13,20 +13,12 @@ use Rattle.state_records.proofs.desk.put_desk.Goals as goal
 pub loop-i-init : goal.loop-i-init
 loop-i-init c = written_none _ _ _
 
-pub copy_in-requires-in-loop-i : goal.copy_in-requires-in-loop-i
-copy_in-requires-in-loop-i c =
-    let inside : c.desk_place_in-at.result + counters_size + row_size * desk_rows ≤ length c.copy_in.new.dst = omega arith in
-    omega (arith, c.loop-i.invariant.long)
-
 pub loop-i-preserved : goal.loop-i-preserved
 loop-i-preserved c =
     let whole : length c.args.d.rows ≡ desk_rows = search (rules, length-mapped) in
     let inside : c.desk_place_in-at.result + counters_size + row_size * desk_rows ≤ length c.copy_in.new.dst = omega arith in
     rw (c.copy_in-in-loop-i.ensures, c.row_words.ensures)
     (written_next _ _ _ _ _ _ whole inside (omega arith) c.loop-i.invariant)
-
-pub shape_of-words : goal.shape_of-words
-shape_of-words c = c.loop-i.invariant.long ∙ c.copy_in.auto.dst
 
 pub returns : goal.returns
 returns c =
