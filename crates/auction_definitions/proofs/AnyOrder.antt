@@ -5,7 +5,7 @@ use mathlib.Core.Path.{◌≡◌, refl, sym, ◌∙◌, ap}
 use Prim.Native.Nat.{ℕ}
 use Rattle.auction_definitions.specs.declared.AuctionOrder.{AuctionOrder}
 use Rattle.auction_definitions.specs.declared.Line.{Line}
-use Rattle.auction_definitions.specs.declared.AuctionAnswer.TheVariants.{None}
+use Rattle.auction_definitions.specs.Answers.{None}
 use Rattle.auction_definitions.specs.Auction.{bad_order, given, refusal, traded, volume_of}
 use Rattle.auction_definitions.proofs.Permuted.{Permuted, any-permuted, back, candidate-permuted, length-permuted, line-permuted}
 use Rattle.auction_definitions.proofs.Projected.{NoVolume, Projected, given-none, given-price, none-given, price-given}

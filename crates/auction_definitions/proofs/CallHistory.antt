@@ -5,7 +5,7 @@ use mathlib.Core.List.{List, [], ◌∷◌}
 use Prim.Native.Nat.{ℕ}
 use Rattle.definitions.specs.Lists.{keep}
 use Rattle.auction_definitions.specs.declared.AuctionOrder.{AuctionOrder}
-use Rattle.auction_definitions.specs.declared.AuctionAnswer.{AuctionAnswer}
+use Rattle.auction_definitions.specs.Answers.{AuctionAnswer}
 use Rattle.auction_definitions.specs.Current.{Call, Lent, call_answer, changed, is_refused, lent_after}
 
 -- calls one after the other, each with its reference

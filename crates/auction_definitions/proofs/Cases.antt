@@ -5,8 +5,7 @@ use mathlib.Core.Path.{◌≡◌, refl}
 use Prim.Native.Nat.{ℕ}
 use lib.ListN.{replicate, take}
 use Rattle.auction_definitions.specs.declared.AuctionOrder.{AuctionOrder}
-use Rattle.auction_definitions.specs.declared.AuctionAnswer.{AuctionAnswer}
-use Rattle.auction_definitions.specs.declared.AuctionAnswer.TheVariants.{Price, None, Refused}
+use Rattle.auction_definitions.specs.Answers.{AuctionAnswer, Price, None, Refused}
 use Rattle.auction_definitions.specs.Auction.{auction, auction_numbers, bad_order, beats, buyers_after, candidates, line_at, place_line, refusal, sellers_after, sum_of, sums_in, traded, unbeaten, volume_of}
 use Rattle.definitions.specs.Lists.{any, first_met, keep}
 use Rattle.ladder.specs.Ladder.{legal, band_of_price, last_band}

@@ -8,8 +8,7 @@ use lib.ListN.{length, length-append}
 use native.Mathlib.Omega.{arith}
 use Rattle.definitions.specs.Lists.{any, keep}
 use Rattle.auction_definitions.specs.declared.AuctionOrder.{AuctionOrder}
-use Rattle.auction_definitions.specs.declared.AuctionAnswer.{AuctionAnswer}
-use Rattle.auction_definitions.specs.declared.AuctionAnswer.TheVariants.{Price, None, Refused}
+use Rattle.auction_definitions.specs.Answers.{AuctionAnswer, Price, None, Refused}
 use Rattle.auction_definitions.specs.Auction.{bad_order}
 use Rattle.auction_definitions.specs.Volumes.{auction_in_one}
 use Rattle.auction_definitions.specs.Current.{Call, Lent, call_answer, call_refusal, changed, held, is_refused, lent_after, lent_of}

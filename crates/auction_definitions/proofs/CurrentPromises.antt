@@ -12,8 +12,7 @@ use borrow.Author.Tests.{le-leb, lt-leb, ne_eqb}
 use native.Mathlib.Omega.{arith}
 use Rattle.definitions.specs.Lists.{any}
 use Rattle.auction_definitions.specs.declared.AuctionOrder.{AuctionOrder}
-use Rattle.auction_definitions.specs.declared.AuctionAnswer.{AuctionAnswer}
-use Rattle.auction_definitions.specs.declared.AuctionAnswer.TheVariants.{Refused}
+use Rattle.auction_definitions.specs.Answers.{AuctionAnswer, Refused}
 use Rattle.auction_definitions.specs.Auction.{auction, bad_order, max_orders}
 use Rattle.auction_definitions.specs.Volumes.{auction_in_one, volumes_after}
 use Rattle.auction_definitions.specs.Current.{Add, Call, Lent, Take, call_answer, call_refusal, changed, held, lent_after, lent_of, list_of, zero_order}

@@ -1,3 +1,4 @@
+pub mod Answered
 pub mod StrictOrder
 pub mod Among
 pub mod Limits

@@ -10,8 +10,7 @@ use native.Mathlib.Omega.{arith}
 use Rattle.definitions.proofs.Tests.{never}
 use Rattle.auction_definitions.specs.declared.AuctionOrder.{AuctionOrder}
 use Rattle.auction_definitions.specs.declared.Line.{Line}
-use Rattle.auction_definitions.specs.declared.AuctionAnswer.{AuctionAnswer}
-use Rattle.auction_definitions.specs.declared.AuctionAnswer.TheVariants.{Price, None, Refused}
+use Rattle.auction_definitions.specs.Answers.{AuctionAnswer, Price, None, Refused}
 use Rattle.auction_definitions.specs.Auction.{beats, candidates, given, has_volume, line_at, traded, unbeaten, volume_of}
 use Rattle.auction_definitions.proofs.Among.{Among, From, kept, mapped, none_in, of-kept, of-mapped}
 use Rattle.auction_definitions.proofs.StrictOrder.{beats-strict, behind}

@@ -13,8 +13,7 @@ use Rattle.ladder.specs.Ladder.{legal}
 use Rattle.definitions.proofs.Refused.{FoundFirst, first_found, found_first}
 use Rattle.auction_definitions.specs.declared.AuctionOrder.{AuctionOrder}
 use Rattle.auction_definitions.specs.declared.Line.{Line}
-use Rattle.auction_definitions.specs.declared.AuctionAnswer.{AuctionAnswer}
-use Rattle.auction_definitions.specs.declared.AuctionAnswer.TheVariants.{Price, None, Refused}
+use Rattle.auction_definitions.specs.Answers.{AuctionAnswer, Price, None, Refused}
 use Rattle.auction_definitions.specs.Auction.{auction, bad_order, beats, buyers_after, conditions, given, is_auction, place_line, refusal, sellers_after, sum_of, sums_in, traded}
 use Rattle.auction_definitions.specs.Current.{zero_order}
 use Rattle.auction_definitions.proofs.StrictOrder as order

@@ -5,8 +5,7 @@ use mathlib.Core.Path.{◌≡◌, refl}
 use Prim.Native.Nat.{ℕ}
 use lib.ListN.{drop, replicate, take}
 use Rattle.auction_definitions.specs.declared.AuctionOrder.{AuctionOrder}
-use Rattle.auction_definitions.specs.declared.AuctionAnswer.{AuctionAnswer}
-use Rattle.auction_definitions.specs.declared.AuctionAnswer.TheVariants.{Price, None, Refused}
+use Rattle.auction_definitions.specs.Answers.{AuctionAnswer, Price, None, Refused}
 use Rattle.auction_definitions.specs.Auction.{auction, bad_order, beats, candidates, line_at, refusal, sum_of, traded, unbeaten}
 use Rattle.auction_definitions.specs.Volumes.{auction_in_one, place_volume, volumes_after, volumes_in}
 use Rattle.definitions.specs.Lists.{any, first_met, keep}

@@ -10,7 +10,7 @@ use borrow.Author.Tests.{eqb-true, ltb-false, ltb-true, ne_eqb}
 use native.Mathlib.Omega.{arith}
 use Rattle.definitions.proofs.Tests.{or_parts}
 use Rattle.auction_definitions.specs.declared.AuctionOrder.{AuctionOrder}
-use Rattle.auction_definitions.specs.declared.AuctionAnswer.TheVariants.{Price, None, Refused}
+use Rattle.auction_definitions.specs.Answers.{Price, None, Refused}
 use Rattle.auction_definitions.specs.Auction.{auction, beats, buyers_after, candidates, empty_line, is_limit, line_at, max_orders, place_line, refusal, sellers_after, volume_of}
 use Rattle.auction_definitions.specs.Volumes.{auction_in_one, place_volume, volumes_after, volumes_in}
 use Rattle.auction_definitions.specs.Current.{zero_order}

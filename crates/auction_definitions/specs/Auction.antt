@@ -5,8 +5,7 @@ use Rattle.definitions.specs.Codes.{buy, sell, max_volume}
 use Rattle.definitions.specs.Lists.{any, first_met, keep}
 use Rattle.auction_definitions.specs.declared.AuctionOrder.{AuctionOrder}
 use Rattle.auction_definitions.specs.declared.Line.{Line}
-use Rattle.auction_definitions.specs.declared.AuctionAnswer.{AuctionAnswer}
-use Rattle.auction_definitions.specs.declared.AuctionAnswer.TheVariants.{Price, None, Refused}
+use Rattle.auction_definitions.specs.Answers.{AuctionAnswer, Price, None, Refused}
 use Rattle.auction_definitions.specs.declared.AuctionNumbers.{AuctionNumbers}
 
 -- "a lent list of orders, .. at most 1,024"; "Two scratch lists of 1,024 64-bit numbers"

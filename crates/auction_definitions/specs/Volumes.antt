@@ -1,7 +1,7 @@
 -- Paper 02, 6: "Half the scratch for the auction". Orders, candidates, sums, the choice of the price and the refusals are request 5's (`Auction`).
 use Rattle.std.specs.Prelude.{cond, List, ◌++◌, map, ℕ, ◌-◌, eqb, length, replicate}
 use Rattle.auction_definitions.specs.declared.AuctionOrder.{AuctionOrder}
-use Rattle.auction_definitions.specs.declared.AuctionAnswer.{AuctionAnswer}
+use Rattle.auction_definitions.specs.Answers.{AuctionAnswer}
 use Rattle.auction_definitions.specs.Auction.{auction, is_limit, line_at, refusal, volume_of}
 
 -- "The price, the volume, "none" and the refusals must be the ones given before": before, with the one list lent in the place of both

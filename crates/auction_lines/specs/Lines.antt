@@ -1,9 +1,9 @@
 -- What the loops over candidates and orders are told of one line.
-use Rattle.std.specs.Prelude.{Bool, cond, not, ◌&&◌, ℕ, ◌+◌, eqb}
+use Rattle.std.specs.Prelude.{Bool, cond, not, ◌&&◌, ℕ, ◌+◌, eqb, Option}
+use Rattle.std.specs.declared.option.Option.TheVariants as option
 use Rattle.auction_definitions.specs.declared.AuctionOrder.{AuctionOrder}
 use Rattle.auction_definitions.specs.declared.Line.{Line}
-use Rattle.auction_definitions.specs.declared.AuctionAnswer.{AuctionAnswer}
-use Rattle.auction_definitions.specs.declared.AuctionAnswer.TheVariants.{Price, None, Refused}
+use Rattle.auction_definitions.specs.Answers.{AuctionAnswer, Price, None, Refused}
 use Rattle.auction_definitions.specs.Auction.{beats, buys_at, has_volume, sells_at, volume_of}
 
 -- what an order adds to a sum; price 0, of an ATO or ATC, is no candidate, and its sums stay 0
@@ -18,9 +18,10 @@ with_order l o =
 abbrev pub better_of : ℕ → Line → Line → Line
 better_of reference l best = cond (beats reference l best) l best
 
--- the answer after the loops: whether they met a bad order, and the best line that they found
-unfoldable pub answer_of : Bool → Line → AuctionAnswer
-answer_of bad best = cond bad (Refused 15) (cond (has_volume best) (Price best.price (volume_of best)) None)
+-- the answer after the loops: of the best line that they found, or none where they met a bad order
+unfoldable pub answer_of : Option Line → AuctionAnswer
+answer_of option.None = Refused 15
+answer_of (option.Some best) = cond (has_volume best) (Price best.price (volume_of best)) None
 
 -- paper 02, 7: the answer to a place at or beyond the count, 16 where no order is bad
 abbrev pub place_refused : Bool → AuctionAnswer

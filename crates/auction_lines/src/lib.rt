@@ -1,13 +1,16 @@
 // Paper 02, 5 to 7: one order, one line, and two lines held against each other. Nothing here is handed a list, only how long lists are, how many orders are held and which place has its turn.
 #![tactic(auto)]
 
-ghost use Rattle.std.specs.Prelude.{◌≡◌, cond, not, ◌&&◌, ◌||◌, ◌+◌, ◌<◌, ◌^◌, min, eqb};
+ghost use Rattle.std.specs.Prelude.{◌≡◌, cond, ◌&&◌, ◌||◌, ◌+◌, ◌<◌, ◌^◌, eqb};
 ghost use Rattle.ladder.specs.Ladder.{legal};
-ghost use Rattle.auction_definitions.specs.Auction.{apart, auction_numbers, bad_order, beats, empty_line, lists_fit, volume_of};
+ghost use Rattle.auction_definitions.specs.Answers.{answered};
+ghost use Rattle.auction_definitions.specs.Auction.{auction_numbers, bad_order, beats, difference_of, distance_to, empty_line, lists_fit, volume_of};
 ghost use Rattle.auction_definitions.specs.Current.{add_fits, is_refused, take_fits, zero_order};
 ghost use Rattle.auction_lines.specs.Lines.{answer_of, better_of, place_refused, with_order};
 
-use auction_definitions::{AuctionAnswer, AuctionNumbers, AuctionOrder, Line, MAX_ORDERS};
+use auction_definitions::{
+    AuctionAnswer, AuctionNumbers, AuctionOrder, AuctionPrice, AuctionRefusal, Line, MAX_ORDERS,
+};
 use definitions::codes::{BUY, MAX_VOLUME, SELL};
 use ladder::Ladder;
 
@@ -34,27 +37,21 @@ pub fn take_fits(count: usize, places: usize, volumes: usize) -> bool
 fn price_or_none(price: u32) -> bool
     ensures { result ≡ (eqb price 0 || legal price) }
 {
-    if price == 0 {
-        return true;
-    }
-    Ladder::legal(price)
+    price == 0 || Ladder::legal(price)
 }
 
+#[tactic(auto, unfolding(auction_definitions::specs::Auction::bad_order))]
 pub fn bad_order(order: AuctionOrder) -> bool
     ensures { result ≡ bad_order order }
 {
-    let in_range = (1 <= order.volume) & (order.volume <= MAX_VOLUME);
-    (SELL < order.side) | !price_or_none(order.price) | !in_range
+    SELL < order.side || !price_or_none(order.price) || !(1..=MAX_VOLUME).contains(&order.volume)
 }
 
 // The first place's turn passes every order; the turns after it ask nothing again.
 pub fn bad_at_first(place: usize, order: AuctionOrder) -> bool
     ensures { result ≡ (eqb place 0 && bad_order order) }
 {
-    if place != 0 {
-        return false;
-    }
-    bad_order(order)
+    place == 0 && bad_order(order)
 }
 
 pub fn empty_line(price: u32) -> Line
@@ -62,8 +59,7 @@ pub fn empty_line(price: u32) -> Line
 {
     Line {
         price,
-        buyers: 0,
-        sellers: 0,
+        ..Line::default()
     }
 }
 
@@ -71,7 +67,11 @@ fn added(counted: bool, sum: u64, volume: u32) -> u64
     requires { sum < 2 ^ 63 }
     ensures { result ≡ sum + cond counted volume 0 }
 {
-    if counted { sum + (volume as u64) } else { sum }
+    if counted {
+        sum + u64::from(volume)
+    } else {
+        sum
+    }
 }
 
 // The side is asked by a branch, and the price without one: docs/BENCHMARKS.md has this form's time and others'.
@@ -85,57 +85,44 @@ pub fn with_order(line: Line, order: AuctionOrder) -> Line
     if order.side == BUY {
         let bought = candidate & ((limit == 0) | (price <= limit));
         return Line {
-            price,
             buyers: added(bought, line.buyers, order.volume),
-            sellers: line.sellers,
+            ..line
         };
     }
     let sold = candidate & ((order.side == SELL) & ((limit == 0) | (limit <= price)));
     Line {
-        price,
-        buyers: line.buyers,
         sellers: added(sold, line.sellers, order.volume),
+        ..line
     }
-}
-
-fn smaller(a: u64, b: u64) -> u64
-    ensures { result ≡ min a b }
-{
-    if a < b { a } else { b }
-}
-
-fn apart_by(a: u64, b: u64) -> u64
-    ensures { result ≡ apart a b }
-{
-    if a < b { b - a } else { a - b }
 }
 
 pub fn volume_of(line: Line) -> u64
     ensures { result ≡ volume_of line }
 {
-    smaller(line.buyers, line.sellers)
+    line.buyers.min(line.sellers)
+}
+
+fn difference_of(line: Line) -> u64
+    ensures { result ≡ difference_of line }
+{
+    line.buyers.abs_diff(line.sellers)
+}
+
+fn distance_to(reference: u32, line: Line) -> u32
+    ensures { result ≡ distance_to reference line }
+{
+    line.price.abs_diff(reference)
 }
 
 // The request's four steps.
 fn beats(reference: u32, line: Line, other: Line) -> bool
     ensures { result ≡ beats reference line other }
 {
-    let volume = volume_of(line);
-    let other_volume = volume_of(other);
-    if volume != other_volume {
-        return other_volume < volume;
-    }
-    let difference = apart_by(line.buyers, line.sellers);
-    let other_difference = apart_by(other.buyers, other.sellers);
-    if difference != other_difference {
-        return difference < other_difference;
-    }
-    let distance = apart_by(line.price as u64, reference as u64);
-    let other_distance = apart_by(other.price as u64, reference as u64);
-    if distance != other_distance {
-        return distance < other_distance;
-    }
-    other.price < line.price
+    let volume = volume_of(line).cmp(&volume_of(other));
+    let difference = difference_of(other).cmp(&difference_of(line));
+    let distance = distance_to(reference, other).cmp(&distance_to(reference, line));
+    let price = line.price.cmp(&other.price);
+    volume.then(difference).then(distance).then(price).is_gt()
 }
 
 pub fn better(reference: u32, line: Line, best: Line) -> Line
@@ -148,71 +135,55 @@ pub fn better(reference: u32, line: Line, best: Line) -> Line
     }
 }
 
-pub fn answer_of(bad: bool, best: Line) -> AuctionAnswer
-    ensures { result ≡ answer_of bad best }
+// The answer after the two loops, of the best line that they found; none where they met a bad order.
+#[tactic(auto, unfolding(crate::specs::Lines::answer_of))]
+pub fn answer_of(best: Option<Line>) -> AuctionAnswer
+    ensures { answered result ≡ answer_of best }
 {
-    if bad {
-        return AuctionAnswer::Refused(15);
-    }
-    let volume = volume_of(best);
-    if volume == 0 {
-        return AuctionAnswer::None;
-    }
-    AuctionAnswer::Price {
+    let best = best.ok_or(AuctionRefusal::BadOrder)?;
+    let given = AuctionPrice {
         price: best.price,
-        volume,
-    }
+        volume: volume_of(best),
+    };
+    Ok((given.volume != 0).then_some(given))
 }
 
 // Paper 02, 7: a place at or beyond the count is refused last.
-pub fn place_refused(bad: bool) -> AuctionAnswer
-    ensures { result ≡ place_refused bad }
+pub fn place_refused(bad: bool) -> AuctionRefusal
+    ensures { answered (Err result) ≡ place_refused bad }
 {
-    let number = if bad { 15 } else { 16 };
-    AuctionAnswer::Refused(number)
+    if bad {
+        AuctionRefusal::BadOrder
+    } else {
+        AuctionRefusal::Place
+    }
 }
 
 pub fn is_refused(answer: AuctionAnswer) -> bool
-    ensures { result ≡ is_refused answer }
+    ensures { result ≡ is_refused (answered answer) }
 {
-    match answer {
-        AuctionAnswer::Price {
-            price: _,
-            volume: _,
-        } => false,
-        AuctionAnswer::None => false,
-        AuctionAnswer::Refused(_) => true,
-    }
+    answer.is_err()
 }
 
 pub fn zero_order() -> AuctionOrder
     ensures { result ≡ zero_order }
 {
-    AuctionOrder {
-        side: 0,
-        price: 0,
-        volume: 0,
-    }
+    AuctionOrder::default()
 }
 
 pub fn numbers_of(answer: AuctionAnswer) -> AuctionNumbers
-    ensures { result ≡ auction_numbers answer }
+    ensures { result ≡ auction_numbers (answered answer) }
 {
     match answer {
-        AuctionAnswer::Price { price, volume } => AuctionNumbers {
+        Ok(Some(AuctionPrice { price, volume })) => AuctionNumbers {
             volume,
             price,
             refusal: 0,
         },
-        AuctionAnswer::None => AuctionNumbers {
-            volume: 0,
-            price: 0,
-            refusal: 0,
-        },
-        AuctionAnswer::Refused(n) => AuctionNumbers {
-            volume: 0,
-            price: 0,
-            refusal: n,
+        Ok(None) => AuctionNumbers::default(),
+        Err(refusal) => AuctionNumbers {
+            refusal: refusal.number(),
+            ..AuctionNumbers::default()
         },
     }
 }
