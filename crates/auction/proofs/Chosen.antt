@@ -4,14 +4,14 @@ use mathlib.Core.Bool.{Bool, true, false, cond}
 use mathlib.Core.List.{List, [], ◌∷◌, map}
 use mathlib.Core.Path.{◌≡◌, refl, sym, ◌∙◌, ap}
 use Prim.Native.Nat.{ℕ}
+use Rattle.std.specs.Prelude.{Some}
 use borrow.Author.Tests.{ltb-false, ltb-true}
 use native.Mathlib.Omega.{arith}
 use Rattle.definitions.specs.Lists.{keep}
 use Rattle.definitions.proofs.Tests.{either}
 use Rattle.auction_definitions.specs.declared.AuctionOrder.{AuctionOrder}
 use Rattle.auction_definitions.specs.declared.Line.{Line}
-use Rattle.auction_definitions.specs.declared.AuctionAnswer.{AuctionAnswer}
-use Rattle.auction_definitions.specs.declared.AuctionAnswer.TheVariants.{Price}
+use Rattle.auction_definitions.specs.Answers.{AuctionAnswer, Price}
 use Rattle.auction_definitions.specs.Auction.{beats, candidates, empty_line, given, has_volume, is_limit, line_at, place_line, traded, unbeaten, volume_of}
 use Rattle.auction_definitions.proofs.StrictOrder.{ahead_of, behind}
 use Rattle.auction_lines.specs.Lines.{answer_of, better_of}
@@ -39,7 +39,7 @@ module _ (reference : ℕ) (orders : List AuctionOrder) where
   priced l = Price l.price (volume_of l)
 
   abbrev answered : Line → List AuctionOrder → AuctionAnswer
-  answered best os = answer_of false (best_after reference orders best os)
+  answered best os = answer_of (Some (best_after reference orders best os))
 
   -- one place more, where a line with volume was found before it
   step-volume : (l best : Line) (os : List AuctionOrder) (rest : List Line) → has_volume best ≡ true
@@ -75,6 +75,6 @@ module _ (reference : ℕ) (orders : List AuctionOrder) where
   from-none (o ∷ os) best none =
       step-none (place_line orders o) best os (traded_of os) none (from-volume os) (from-none os) ∙ ap (given reference) (sym (traded-cons o os))
 
-  pub chosen : answer_of false (best_after reference orders (empty_line 0) orders) ≡ given reference (traded orders)
+  pub chosen : answer_of (Some (best_after reference orders (empty_line 0) orders)) ≡ given reference (traded orders)
   unfolding traded traded_of
   chosen = from-none orders (empty_line 0) refl

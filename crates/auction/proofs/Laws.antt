@@ -1,18 +1,19 @@
--- What holds before a turn of each of the two loops of `price` and of `price_and_volumes`, and that a turn keeps it. `price` and `volumes/price_and_volumes` cite these, and `Promised.antt` what they promise from there.
+-- What holds before a turn of each of the two loops of `best_line`, and that a turn keeps it, whatever the lines are stored in; and what a list then holds that is lent for them, which `Promised.antt` cites.
 -- Assumes nothing.
 use mathlib.Core.Bool.{Bool, true, false, cond, not, ◌&&◌, ◌||◌}
 use mathlib.Core.List.{List, [], ◌∷◌, ◌++◌, map, map-append}
 use mathlib.Core.Path.{◌≡◌, refl, sym, ◌∙◌, ap, subst}
 use Prim.Native.Nat.{ℕ, zero, suc, ◌+◌, ◌*◌, ◌≤◌, ◌<◌, ◌^◌}
+use native.Mathlib.Numerals.{add-one}
 use native.Mathlib.Omega.{arith}
 use lib.Dec.{eqb}
-use lib.ListN.{length, get_or, set, take, drop, drop_of_length-le, length-map, length-set, length-take}
+use lib.ListN.{length, get_or, set, take, drop, drop_of_length-le, length-map, length-take}
 use lib.Seq.{set_at, append_snoc, take_all}
 use borrow.Author.Tests.{eq-eqb, eqb-true}
 use Rattle.definitions.specs.Codes.{max_volume}
 use Rattle.definitions.specs.Lists.{any}
 use Rattle.definitions.proofs.Lists.{any-end, any_next, drop-next, take_next}
-use Rattle.definitions.proofs.Tests.{and_second}
+use Rattle.definitions.proofs.Tests.{and_parts, and_second, or-first}
 use Rattle.auction_definitions.specs.declared.AuctionOrder.{AuctionOrder}
 use Rattle.auction_definitions.specs.declared.Line.{Line}
 use Rattle.auction_definitions.specs.Auction.{bad_order, buys_at, empty_line, line_at, place_line, sells_at, sum_of, sums_in}
@@ -20,7 +21,7 @@ use Rattle.auction_definitions.specs.Current.{zero_order}
 use Rattle.auction_definitions.proofs.Accepted.{good-volume}
 use Rattle.auction_definitions.proofs.Among.{none_of, read}
 use Rattle.auction_lines.specs.Lines.{better_of, with_order}
-use Rattle.auction.specs.Turns.{best_after, filled_to, line_after}
+use Rattle.auction.specs.Turns.{best_after, filled_to, line_after, stored_to}
 
 -- before the turn of place i: nothing bad was met in an earlier turn, and the best line is that of the places passed
 pub record Candidates (orders : List AuctionOrder) (reference i : ℕ) (best : Line) : Type 0 where
@@ -28,10 +29,10 @@ pub record Candidates (orders : List AuctionOrder) (reference i : ℕ) (best : L
   pub none-bad : 0 < i → any bad_order orders ≡ false
   pub best-left : best_after reference orders best (drop i orders) ≡ best_after reference orders (empty_line 0) orders
 
--- and a scratch list that held the numbers of start has one of each place's line for the places passed
-pub record Filled (sum : Line → ℕ) (orders : List AuctionOrder) (start : List ℕ) (i : ℕ) (list : List ℕ) : Type 0 where
-  pub so_far : list ≡ filled_to sum orders i start
-  pub long : length list ≡ length start
+-- and what was lent has what was stored for the places passed, and as many places as it had
+pub record Stored {S : Type 0} (store : S → ℕ → Line → S) (places : S → ℕ) (orders : List AuctionOrder) (start : S) (i : ℕ) (scratch : S) : Type 0 where
+  pub so_far : scratch ≡ stored_to store orders i start
+  pub as_long : places scratch ≡ places start
 
 -- within it, before order j is added: whether a bad one is left is known in the first turn, the line is that of the orders passed, and its sums are far from the
 -- end of 64 bits
@@ -132,31 +133,53 @@ module _ (orders : List AuctionOrder) where
       ∙ ap (λ l. (map at (take i orders) ++ (sum l ∷ [])) ++ drop (i + 1) start) e
       ∙ ap (λ l. l ++ drop (i + 1) start) (sym (ap (map at) (take_next orders i zero_order small) ∙ map-append at (take i orders) (get_or orders i zero_order ∷ [])))
 
-  module _ (sum : Line → ℕ) (start : List ℕ) where
-    pub none_yet : start ≡ filled_to sum orders 0 start
-    unfolding filled_to
-    none_yet = refl
+  -- a list of what is lent that every store gives a number of the line, and one that none changes
+  module _ {S : Type 0} (store : S → ℕ → Line → S) (start : S) where
+    filled : (list : S → List ℕ) (sum : Line → ℕ) → ((s : S) (i : ℕ) (line : Line) → list (store s i line) ≡ set (list s) i (sum line))
+        → (i : ℕ) → i ≤ length orders → i ≤ length (list start) → list (stored_to store orders i start) ≡ filled_to sum orders i (list start)
+    unfolding stored_to filled_to
+    filled list sum gives zero small room = refl
+    filled list sum gives (suc i) small room =
+        gives (stored_to store orders i start) i (place_line orders (get_or orders i zero_order))
+        ∙ ap (λ (l : List ℕ). set l i (sum (place_line orders (get_or orders i zero_order)))) (filled list sum gives i (omega arith) (omega arith))
+        ∙ rw (← add-one) (set_next sum (list start) i (omega arith) (omega arith) refl)
 
-    pub filled_start : Filled sum orders start 0 start
-    filled_start = record { so_far = none_yet; long = refl }
-
-    -- the number of place i is stored
-    pub filled_next : {i : ℕ} {line : Line} {list : List ℕ} → Filled sum orders start i list → i < length orders → line ≡ place_line orders (get_or orders i zero_order)
-        → length orders ≤ length start → Filled sum orders start (i + 1) (set list i (sum line))
-    filled_next {i} {line} {list} at small whole fits =
-        record {
-          so_far = ap (λ l. set l i (sum line)) at.so_far ∙ set_next sum start i small (omega (arith, small, fits)) whole;
-          long = length-set list i (sum line) ∙ at.long;
-        }
-
-    pub filled-whole : {i : ℕ} {list : List ℕ} → Filled sum orders start i list → i ≡ length orders → list ≡ sums_in sum orders start
+    pub filled-whole : (list : S → List ℕ) (sum : Line → ℕ) → ((s : S) (i : ℕ) (line : Line) → list (store s i line) ≡ set (list s) i (sum line))
+        → length orders ≤ length (list start) → list (stored_to store orders (length orders) start) ≡ sums_in sum orders (list start)
     unfolding filled_to sums_in
-    filled-whole at last =
-        at.so_far ∙ ap (λ (k : ℕ). filled_to sum orders k start) last ∙ ap (λ os. map (λ o. sum (place_line orders o)) os ++ drop (length orders) start) (take_all (length orders) orders (omega arith))
+    filled-whole list sum gives room =
+        filled list sum gives (length orders) (omega arith) room ∙ ap (λ os. map (λ o. sum (place_line orders o)) os ++ drop (length orders) (list start)) (take_all (length orders) orders (omega arith))
 
-    pub nothing-filled : {i : ℕ} {list : List ℕ} → Filled sum orders start i list → i ≡ 0 → list ≡ start
-    unfolding filled_to
-    nothing-filled at first = at.so_far ∙ rw first
+    pub stays : {A : Type 0} (part : S → A) → ((s : S) (i : ℕ) (line : Line) → part (store s i line) ≡ part s) → (i : ℕ) → part (stored_to store orders i start) ≡ part start
+    unfolding stored_to
+    stays part kept zero = refl
+    stays part kept (suc i) = kept (stored_to store orders i start) i (place_line orders (get_or orders i zero_order)) ∙ stays part kept i
+
+module _ {S : Type 0} (store : S → ℕ → Line → S) (places : S → ℕ) (orders : List AuctionOrder) (start : S) where
+  pub stored-start : Stored store places orders start 0 start
+  unfolding stored_to
+  stored-start = record { so_far = refl; as_long = refl }
+
+  -- the line of place i is stored
+  pub stored-next : {i : ℕ} {line : Line} {scratch next : S} → Stored store places orders start i scratch → line ≡ place_line orders (get_or orders i zero_order) → next ≡ store scratch i line
+      → ((s : S) (i : ℕ) (line : Line) → places (store s i line) ≡ places s) → Stored store places orders start (i + 1) next
+  unfolding stored_to
+  stored-next {i} {line} {scratch} at whole e long = record {
+    so_far = e ∙ ap (λ (s : S). store s i line) at.so_far ∙ rw (add-one, whole);
+    as_long = ap places e ∙ long scratch i line ∙ at.as_long;
+  }
+
+  pub stored-end : {i : ℕ} {scratch : S} → i ≡ length orders → Stored store places orders start i scratch → scratch ≡ stored_to store orders (length orders) start
+  stored-end {i} {scratch} last at = at.so_far ∙ ap (λ (k : ℕ). stored_to store orders k start) last
+
+  pub nothing-stored : {i : ℕ} {scratch : S} → i ≡ 0 → Stored store places orders start i scratch → scratch ≡ start
+  unfolding stored_to
+  nothing-stored first at = at.so_far ∙ rw first
+
+none-bad-all : (orders : List AuctionOrder) → (0 < length orders → any bad_order orders ≡ false) → any bad_order orders ≡ false
+unfolding any
+none-bad-all [] none = refl
+none-bad-all (o ∷ os) none = none (omega arith)
 
 module _ (orders : List AuctionOrder) (reference : ℕ) where
   pub candidates-start : Candidates orders reference 0 (empty_line 0)
@@ -178,3 +201,20 @@ module _ (orders : List AuctionOrder) (reference : ℕ) where
             ap (λ l. best_after reference orders (better_of reference l best) (drop (i + 1) orders)) (line-whole orders done)
             ∙ sym (ap (best_after reference orders best) (drop-next orders i zero_order small)) ∙ at.best-left;
       }
+
+  -- every place was passed
+  pub candidates-end : {i : ℕ} {best : Line} → i ≡ length orders → Candidates orders reference i best
+      → (any bad_order orders ≡ false) × (best ≡ best_after reference orders (empty_line 0) orders)
+  unfolding best_after
+  candidates-end {i} {best} last at = (
+    none-bad-all orders (λ some. at.none-bad (omega (arith, some, last))),
+    sym (ap (best_after reference orders best) (drop_of_length-le orders {i = i} (omega (arith, last)))) ∙ at.best-left,
+  )
+
+-- a bad order was met, which only the first turn asks about
+pub bad-met : {orders : List AuctionOrder} {i j : ℕ} {line : Line} → Orders orders i j line → j < length orders
+    → (eqb i 0 && bad_order (get_or orders j zero_order)) ≡ true → (i ≡ 0) × (any bad_order orders ≡ true)
+bad-met {orders} {i} {j} on small bad =
+    let parts : (eqb i 0 ≡ true) × (bad_order (get_or orders j zero_order) ≡ true) = and_parts (eqb i 0) (bad_order (get_or orders j zero_order)) bad in
+    let first : i ≡ 0 = eqb-true i 0 parts.0 in
+    (first, sym (on.bad-left first) ∙ any_next bad_order orders j zero_order small ∙ or-first (any bad_order (drop (j + 1) orders)) parts.1)

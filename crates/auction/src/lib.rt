@@ -2,47 +2,86 @@
 // label", and "a slice of small order structs read by the auction price, with sums done in covered functions", which are those of `auction_lines`.
 #![tactic(auto)]
 
-ghost use Rattle.std.specs.Prelude.{◌≡◌};
-ghost use Rattle.auction_definitions.specs.Auction.{auction, buyers_after, sellers_after};
+ghost use Rattle.std.specs.Prelude.{◌≡◌, ◌<◌, ◌≤◌, ℕ, length, min};
+ghost use Rattle.std.proofs.Common.{rules};
+ghost use Rattle.auction_definitions.specs.declared.Line.{Line};
+ghost use Rattle.auction_definitions.specs.Answers.{answered};
+ghost use Rattle.auction_definitions.specs.Auction.{auction, buyers_after, max_orders, sellers_after};
+ghost use Rattle.auction.specs.Scratch.{with_sums};
+ghost use Rattle.auction.specs.Turns.{Passed};
 
-use auction_definitions::{AuctionAnswer, AuctionOrder};
+use auction_definitions::{AuctionAnswer, AuctionOrder, AuctionRefusal, Line};
 
 pub mod volumes;
 
-// The first place's turn passes every order, and the first store comes after it: a bad order leaves both scratch lists as they were.
+// What is lent to hold numbers of the lines, a line's at the place of its order.
+trait Scratch {
+    ghost places: { Self → ℕ };
+
+    ghost stored: { Self → ℕ → Line → Self };
+
+    fn store(&mut self, place: usize, line: Line)
+        requires { place < places self.old }
+        ensures { self.new ≡ stored self.old place line };
+
+    ghost as_long: { (s : Self) (place : ℕ) (line : Line) → places (stored s place line) ≡ places s };
+}
+
+// The best line, or none where an order is bad. The first place's turn passes every order, and the first store comes after it: a bad order leaves the scratch as it was.
+fn best_line<S: Scratch>(orders: &[AuctionOrder], reference: u32, scratch: &mut S) -> Option<Line>
+    requires fits { length orders.now ≤ max_orders }
+    requires room { length orders.now ≤ S.places scratch.old }
+    ensures { Passed S.stored orders.now reference scratch.old scratch.new result }
+{
+    'candidates: {
+        let mut best = auction_lines::empty_line(0);
+        for (place, candidate) in orders.iter().enumerate() {
+            let mut line = auction_lines::empty_line(candidate.price);
+            for order in orders {
+                if auction_lines::bad_at_first(place, *order) {
+                    break 'candidates None;
+                }
+                line = auction_lines::with_order(line, *order);
+            }
+            scratch.store(place, line);
+            best = auction_lines::better(reference, line, best);
+        }
+        Some(best)
+    }
+}
+
+#[derive(Drop)]
+struct Sums<'a> {
+    buyers: &'a mut [u64],
+    sellers: &'a mut [u64],
+}
+
+impl Scratch for Sums<'_> {
+    ghost places = { λ s. min (length s.buyers.now) (length s.sellers.now) };
+
+    ghost stored = { with_sums };
+
+    ghost as_long = { Prim.search rules };
+
+    fn store(&mut self, place: usize, line: Line) {
+        self.buyers[place] = line.buyers;
+        self.sellers[place] = line.sellers;
+    }
+}
+
 pub fn price(
     orders: &[AuctionOrder],
     reference: u32,
     buyers: &mut [u64],
     sellers: &mut [u64],
 ) -> AuctionAnswer
-    ensures { (result ≡ auction orders.now reference buyers.old sellers.old)
+    ensures { (answered result ≡ auction orders.now reference buyers.old sellers.old)
         × (buyers.new ≡ buyers_after orders.now buyers.old sellers.old)
         × (sellers.new ≡ sellers_after orders.now buyers.old sellers.old) }
 {
-    let count = orders.len();
-    if !auction_lines::lists_fit(count, buyers.len(), sellers.len()) {
-        return AuctionAnswer::Refused(14);
+    if !auction_lines::lists_fit(orders.len(), buyers.len(), sellers.len()) {
+        return Err(AuctionRefusal::Lists);
     }
-    let mut best = auction_lines::empty_line(0);
-    let mut bad = false;
-    let mut i = 0;
-    'candidates: while i < count {
-        let mut line = auction_lines::empty_line(orders[i].price);
-        let mut j = 0;
-        while j < count {
-            let order = orders[j];
-            if auction_lines::bad_at_first(i, order) {
-                bad = true;
-                break 'candidates;
-            }
-            line = auction_lines::with_order(line, order);
-            j += 1;
-        }
-        buyers[i] = line.buyers;
-        sellers[i] = line.sellers;
-        best = auction_lines::better(reference, line, best);
-        i += 1;
-    }
-    auction_lines::answer_of(bad, best)
+    let best = best_line(orders, reference, &mut Sums { buyers, sellers });
+    auction_lines::answer_of(best)
 }

@@ -1,56 +1,44 @@
-// Paper 02, 6: "Half the scratch for the auction". The loops and the label are those of `price`; what a place is given is the volume of its line.
-ghost use Rattle.std.specs.Prelude.{◌≡◌};
+// Paper 02, 6: "Half the scratch for the auction". The loops and the label are those of `best_line`, as in `price`; what a place is given is the volume of its line.
+ghost use Rattle.std.specs.Prelude.{◌≡◌, length};
+ghost use Rattle.std.proofs.Common.{rules};
+ghost use Rattle.auction_definitions.specs.Answers.{answered};
 ghost use Rattle.auction_definitions.specs.Volumes.{auction_in_one, volumes_after};
-ghost use Rattle.auction.specs.Turns.{cleared_from};
+ghost use Rattle.auction.specs.Scratch.{with_volume};
 
-use auction_definitions::{AuctionAnswer, AuctionOrder};
+use super::{Scratch, best_line};
+use auction_definitions::{AuctionAnswer, AuctionOrder, AuctionRefusal, Line};
 
-// "0 elsewhere": from a place to the list's end.
-fn clear_from(volumes: &mut [u64], place: usize)
-    ensures { volumes.new ≡ cleared_from place volumes.old }
-{
-    let mut i = place;
-    while i < volumes.len() {
-        volumes[i] = 0;
-        i += 1;
+#[derive(Drop)]
+struct Volumes<'a>(&'a mut [u64]);
+
+impl Scratch for Volumes<'_> {
+    ghost places = { λ s. length s.0.now };
+
+    ghost stored = { with_volume };
+
+    ghost as_long = { Prim.search rules };
+
+    fn store(&mut self, place: usize, line: Line) {
+        self.0[place] = auction_lines::volume_of(line);
     }
 }
 
-// As in `price`, nothing is stored before the first place's turn has passed every order; what stands behind the orders is cleared last.
+// What stands behind the orders is cleared last, "0 elsewhere": a bad order leaves the list as it was.
 pub fn price_and_volumes(
     orders: &[AuctionOrder],
     reference: u32,
     volumes: &mut [u64],
 ) -> AuctionAnswer
-    ensures { (result ≡ auction_in_one orders.now reference volumes.old)
+    ensures { (answered result ≡ auction_in_one orders.now reference volumes.old)
         × (volumes.new ≡ volumes_after orders.now volumes.old) }
 {
     let count = orders.len();
     if !auction_lines::lists_fit(count, volumes.len(), volumes.len()) {
-        return AuctionAnswer::Refused(14);
+        return Err(AuctionRefusal::Lists);
     }
-    let mut best = auction_lines::empty_line(0);
-    let mut bad = false;
-    let mut i = 0;
-    'candidates: while i < count {
-        let mut line = auction_lines::empty_line(orders[i].price);
-        let mut j = 0;
-        while j < count {
-            let order = orders[j];
-            if auction_lines::bad_at_first(i, order) {
-                bad = true;
-                break 'candidates;
-            }
-            line = auction_lines::with_order(line, order);
-            j += 1;
-        }
-        volumes[i] = auction_lines::volume_of(line);
-        best = auction_lines::better(reference, line, best);
-        i += 1;
+    let best = best_line(orders, reference, &mut Volumes(volumes));
+    if best.is_some() {
+        volumes[count..].fill(0);
     }
-    if bad {
-        return AuctionAnswer::Refused(15);
-    }
-    clear_from(volumes, count);
-    auction_lines::answer_of(false, best)
+    auction_lines::answer_of(best)
 }

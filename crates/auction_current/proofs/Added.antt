@@ -8,7 +8,7 @@ use native.Mathlib.Omega.{arith}
 use lib.Dec.{eqb}
 use lib.ListN.{length, get_or, take, length-append}
 use lib.Seq.{length-take-le}
-use Rattle.auction_definitions.specs.declared.AuctionAnswer.{AuctionAnswer}
+use Rattle.auction_definitions.specs.Answers.{AuctionAnswer}
 use Rattle.auction_definitions.specs.declared.AuctionOrder.{AuctionOrder}
 use Rattle.auction_definitions.specs.Auction.{max_orders, refusal}
 use Rattle.auction_definitions.specs.Volumes.{auction_in_one, volumes_after}

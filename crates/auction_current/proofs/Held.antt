@@ -6,8 +6,7 @@ use Prim.Native.Nat.{ℕ}
 use mathlib.Core.List.{List, [], ◌∷◌}
 use lib.Dec.{eqb}
 use Rattle.definitions.proofs.Tests.{never}
-use Rattle.auction_definitions.specs.declared.AuctionAnswer.{AuctionAnswer}
-use Rattle.auction_definitions.specs.declared.AuctionAnswer.TheVariants.{Refused}
+use Rattle.auction_definitions.specs.Answers.{AuctionAnswer, Refused}
 use Rattle.auction_definitions.specs.declared.AuctionOrder.{AuctionOrder}
 use Rattle.auction_definitions.specs.declared.Line.{Line}
 use Rattle.auction_definitions.specs.Auction.{auction, given, refusal, traded}
@@ -48,3 +47,10 @@ module _ (os : List AuctionOrder) (reference : ℕ) (vs : List ℕ) {X : Type 0}
 
   pub held-cleared : is_refused r ≡ false → cleared ≡ cond (eqb (refusal os vs vs) 0) cleared before
   held-cleared fine = sym (ap (λ (t : Bool). cond t cleared before) (none-met os reference vs r e fine))
+
+  -- what is left of either sort
+  pub left-kept : {left : X} → left ≡ cond (eqb (refusal os vs vs) 0) cleared before → is_refused r ≡ true → left ≡ before
+  left-kept e refused = e ∙ sym (held_kept refused)
+
+  pub left-cleared : {left : X} → left ≡ cond (eqb (refusal os vs vs) 0) cleared before → is_refused r ≡ false → left ≡ cleared
+  left-cleared e fine = e ∙ sym (held-cleared fine)

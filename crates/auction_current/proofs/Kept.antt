@@ -15,8 +15,7 @@ use lib.ListN.{length, take}
 use borrow.Author.Tests.{le-leb}
 use Rattle.definitions.specs.Lists.{any, first_met}
 use Rattle.definitions.proofs.Tests.{and-whole}
-use Rattle.auction_definitions.specs.declared.AuctionAnswer.{AuctionAnswer}
-use Rattle.auction_definitions.specs.declared.AuctionAnswer.TheVariants.{Refused}
+use Rattle.auction_definitions.specs.Answers.{AuctionAnswer, Refused}
 use Rattle.auction_definitions.specs.declared.AuctionOrder.{AuctionOrder}
 use Rattle.auction_definitions.specs.Auction.{auction, bad_order, lists_fit, max_orders, refusal}
 use Rattle.auction_definitions.specs.Volumes.{auction_in_one, volumes_after, volumes_in}

@@ -12,8 +12,7 @@ use borrow.Author.Tests.{le-leb, lt-leb}
 use Rattle.definitions.specs.Lists.{any, first_met}
 use Rattle.definitions.proofs.Lists.{any_next}
 use Rattle.definitions.proofs.Rows.{any_append}
-use Rattle.auction_definitions.specs.declared.AuctionAnswer.{AuctionAnswer}
-use Rattle.auction_definitions.specs.declared.AuctionAnswer.TheVariants.{Refused}
+use Rattle.auction_definitions.specs.Answers.{AuctionAnswer, Refused}
 use Rattle.auction_definitions.specs.declared.AuctionOrder.{AuctionOrder}
 use Rattle.auction_definitions.specs.Auction.{bad_order, max_orders, refusal}
 use Rattle.auction_definitions.specs.Volumes.{auction_in_one, volumes_after}
@@ -76,11 +75,9 @@ module _ (place reference : ℕ) (xs : List AuctionOrder) (n : ℕ) (vs : List �
         ∙ second-first (any bad_order (take place (take n xs))) (bad_order taken) (any bad_order (drop (place + 1) (take n xs)))
         ∙ ap (λ (t : Bool). bad_order taken || t) (sym (any_append bad_order (take place (take n xs)) (drop (place + 1) (take n xs))))
 
-    pub taken-bad : bad_order taken ≡ true → Promised (Take place) reference l (Refused 15) (lent (gap_opened place n taken ys) n vs)
+    pub taken-bad : bad_order taken ≡ true → Promised (Take place) reference l (Refused 15) l
     unfolding held
-    taken-bad bad =
-        let left : Promised (Take place) reference l (Refused 15) l = kept-bad (Take place) reference l fit (bad-held ∙ ap (λ (t : Bool). t || any bad_order os) bad) in
-        (left.0, (λ i. lent (reopened place n xs near take_within.0 i) n vs) ∙ left.1)
+    taken-bad bad = kept-bad (Take place) reference l fit (bad-held ∙ ap (λ (t : Bool). t || any bad_order os) bad)
 
     taken-same : bad_order taken ≡ false → refusal os vs vs ≡ call_refusal (Take place) l
     unfolding held

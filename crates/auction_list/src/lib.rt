@@ -12,25 +12,15 @@ use auction_definitions::AuctionOrder;
 pub fn any_bad(orders: &[AuctionOrder]) -> bool
     ensures { result ≡ any bad_order orders.now }
 {
-    let mut bad = false;
-    let mut i = 0;
-    while i < orders.len() {
-        bad = bad | auction_lines::bad_order(orders[i]);
-        i += 1;
-    }
-    bad
+    orders.iter().any(|order| auction_lines::bad_order(*order))
 }
 
 // "places past the count are zero afterwards": from a place to the list's end.
 pub fn clear_from(orders: &mut [AuctionOrder], place: usize)
     ensures { orders.new ≡ zero_from place orders.old }
 {
-    let zero = auction_lines::zero_order();
-    let mut i = place;
-    while i < orders.len() {
-        orders[i] = zero;
-        i += 1;
-    }
+    let first = place.min(orders.len());
+    orders[first..].fill(auction_lines::zero_order());
 }
 
 // The order that stood at the last of the count's places is given back: it has none any more.
@@ -44,15 +34,10 @@ pub fn open_gap(
     ensures { (result ≡ get_or orders.old (count - 1) zero_order)
         × (orders.new ≡ gap_opened place count order orders.old) }
 {
-    let mut carried = order;
-    let mut i = place;
-    while i < count {
-        let next = orders[i];
-        orders[i] = carried;
-        carried = next;
-        i += 1;
-    }
-    carried
+    let last = orders[count - 1];
+    orders.copy_within(place..count - 1, place + 1);
+    orders[place] = order;
+    last
 }
 
 // "takes out the order at a given place and closes the gap": the order is given back, and the last of the count's places is zero.
@@ -61,13 +46,8 @@ pub fn close_gap(orders: &mut [AuctionOrder], place: usize, count: usize) -> Auc
     ensures { (result ≡ get_or orders.old place zero_order)
         × (orders.new ≡ gap_closed place count orders.old) }
 {
-    let mut carried = auction_lines::zero_order();
-    let mut i = count;
-    while place < i {
-        i -= 1;
-        let next = orders[i];
-        orders[i] = carried;
-        carried = next;
-    }
-    carried
+    let taken = orders[place];
+    orders.copy_within(place + 1..count, place);
+    orders[count - 1] = auction_lines::zero_order();
+    taken
 }

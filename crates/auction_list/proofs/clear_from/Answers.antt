@@ -1,11 +1,9 @@
--- `auction_list::clear_from` meets its contract: a place a turn is cleared.
-use Rattle.auction_lines.proofs.Cleared.{cleared-end, cleared-next}
+-- `auction_list::clear_from` meets its contract: what stands from the place on is zero.
+use Rattle.auction_lines.proofs.Cleared.{cleared}
 use Rattle.auction_list.specs.Gaps.{zero_from}
 use Rattle.auction_list.proofs.clear_from.Goals as goal
 
-pub loop-i-preserved : goal.loop-i-preserved
-loop-i-preserved c = rw c.zero_order-zero.ensures (cleared-next c.loop-i-test.true c.loop-i.invariant)
-
 pub returns : goal.returns
 unfolding zero_from
-returns c = cleared-end c.loop-i-test.false c.loop-i.invariant
+returns c =
+    rw c.zero_order.ensures at (cleared c.args.place c.args.orders.now c.fill.new.self c.zero_order.result c.min-first.ensures (c.fill.ensures.after (λ y h. h)))
