@@ -1,8 +1,7 @@
 -- What is said of bytes that are put at the start of lent bytes, and of the listing's lines.
 use Rattle.std.specs.Prelude.{List, [], ◌∷◌, ◌++◌, ◌≡◌, ◌≤◌, ℕ, length, take}
 use Rattle.std.specs.Fmt.{decimal}
-use Rattle.definitions.specs.Answers.{answer_text}
-use Rattle.definitions.specs.Answers.{Answer}
+use Rattle.definitions.specs.Answers.{Answer, answer_text}
 
 -- `&bytes[..n]` is in bounds and has n bytes
 abbrev pub IsPrefixLen : ℕ → List ℕ → Type 0

@@ -4,7 +4,7 @@
 ghost use Rattle.std.specs.Prelude.{◌≡◌, length, OnOk};
 ghost use Rattle.definitions.specs.Gate.{words_after};
 ghost use Rattle.definitions.specs.Walk.{split};
-ghost use Rattle.definitions.specs.Answers.{verdict_text, answer_text};
+ghost use Rattle.definitions.specs.Answers.{answered, verdict_text, answer_text};
 ghost use Rattle.day.specs.Text.{line_text};
 ghost use Rattle.std.specs.Io.KnownBytes.{Appends};
 
@@ -29,7 +29,8 @@ const INPUT: usize = 65536;
 
 fn main(rt: HostRuntime) -> io::Result<()> {
     let mut words = [0u32; WORDS];
-    gate::make(&mut words, CUSTOMERS, SECURITIES);
+    let made = gate::make(&mut words, CUSTOMERS, SECURITIES);
+    prove!(made.is_ok());
     let mut input = [0u8; INPUT];
     let length = read_full(&mut rt.stdin(), &mut input)?;
     let mut out = io::writer(&rt);
@@ -53,7 +54,7 @@ fn list<W: Write>(words: &mut [u32], bytes: &[u8], out: &mut W) -> io::Result<()
 
 // An event's index from 0, its kind byte and its answer.
 fn line<W: Write>(index: usize, kind: u8, answer: Answer, out: &mut W) -> io::Result<()>
-    ensures { OnOk result (Appends (W.contents out.old) (W.contents out.new) (line_text index kind answer)) }
+    ensures { OnOk result (Appends (W.contents out.old) (W.contents out.new) (line_text index kind (answered answer))) }
 {
     write!(out, "{index} {kind} ")?;
     write_answer(answer, out)?;
@@ -62,12 +63,15 @@ fn line<W: Write>(index: usize, kind: u8, answer: Answer, out: &mut W) -> io::Re
 
 #[tactic(auto, unfolding(definitions::specs::Answers::ascii))]
 fn write_answer<W: Write>(answer: Answer, out: &mut W) -> io::Result<()>
-    ensures { OnOk result (Appends (W.contents out.old) (W.contents out.new) (answer_text answer)) }
+    ensures { OnOk result (Appends (W.contents out.old) (W.contents out.new) (answer_text (answered answer))) }
 {
     match answer {
-        Answer::Ok => out.write_all(b"ok"),
-        Answer::Verdict(v) => out.write_all(verdict_text(v)),
-        Answer::Refused(n) => write!(out, "refused {n}"),
+        Ok(None) => out.write_all(b"ok"),
+        Ok(Some(v)) => out.write_all(verdict_text(v)),
+        Err(refusal) => {
+            let n = refusal.number();
+            write!(out, "refused {n}")
+        }
     }
 }
 

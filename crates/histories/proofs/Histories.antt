@@ -13,10 +13,11 @@ use lib.Dec.{ltb, leb}
 use borrow.Author.Tests.{ltb-true, ltb-false, leb-true, leb-false}
 use Rattle.definitions.specs.Lists.{keep}
 use Rattle.definitions.specs.State.{sizes_fit, fresh}
-use Rattle.definitions.specs.Gate.{event_words, event_answer, words_after, answers_to}
+use Rattle.definitions.specs.Gate.{result_of, outcome, event_words, event_answer, words_after, answers_to}
 use Rattle.definitions.specs.Lone.{is_fed, market_words, customer_words}
 use Rattle.definitions.specs.Walk.{split}
-use Rattle.definitions.specs.Answers.{answer_number}
+use Rattle.definitions.specs.Answers.{Answer, answer_number}
+use Rattle.gate.proofs.Outcomes.{Left}
 use Rattle.definitions.proofs.Lists.{drop-next}
 use Rattle.definitions.proofs.Demands.{isolated, alike}
 use Rattle.std.specs.Prelude.{Option, Some, None}
@@ -136,15 +137,15 @@ turns-none ends w b a =
     subst (λ (n : ℕ). SoFar w (handed ends b (length a) 0 0) a w a (handed ends b n 0 0) 0) none (begin w a (handed ends b (length a) 0 0))
 
 module _ (ends : ℕ → ℕ → Option ℕ) (w₀ b a₀ w a : List ℕ) (at count : ℕ) (turns : Turns ends w₀ b a₀ w a at count) where
-  pub turns-next : (end : ℕ) {v : List ℕ} {x : ℕ} → count < length a → ends at count ≡ Some end
-      → length v ≡ length w → v ≡ event_words w (take (end - at) (drop at b)) → x ≡ answer_number (event_answer w (take (end - at) (drop at b)))
+  pub turns-next : (end : ℕ) {v : List ℕ} {x : ℕ} {r : Answer} → count < length a → ends at count ≡ Some end
+      → length v ≡ length w → ◌≡◌ {A = Left} (r, v) (result_of w (outcome w (take (end - at) (drop at b)))) → x ≡ answer_number r
       → Turns ends w₀ b a₀ v (set a count x) end (count + 1)
-  turns-next end h some same ev ex =
+  turns-next end h some same done number =
       let left : ℕ = length a₀ - (count + 1) in
       let one_more : length a₀ - count ≡ suc left = omega (arith, turns.long) in
       turn w₀ (handed ends b (length a₀) 0 0) a₀ w a (handed ends b (length a₀ - count) at count) count turns (take (end - at) (drop at b)) (handed ends b left end (count + 1)) h
       (ap (λ (n : ℕ). handed ends b n at count) one_more ∙ handed-next ends b at count left end some)
-      same ev ex
+      same (ap (λ (x : Left). x.1) done) (number ∙ ap answer_number (ap (λ (x : Left). x.0) done))
 
   -- no event is left, or no place for an answer
   pub turns-end : ends at count ≡ None → Ran w₀ (handed ends b (length a₀) 0 0) a₀ count w a

@@ -1,15 +1,13 @@
 -- `day::list` meets its contract: each turn hands one event to the gate, and the events that are left do the rest.
-use mathlib.Core.List.{List}
 use mathlib.Core.Logic.{inl}
-use mathlib.Core.Path.{◌≡◌, ap, sym, ◌∙◌}
-use Prim.Native.Nat.{ℕ, ◌≤◌}
+use mathlib.Core.Path.{◌≡◌, ap, ◌∙◌}
+use Prim.Native.Nat.{◌≤◌}
 use native.Mathlib.Omega.{arith}
 use lib.ListN.{length}
 use Rattle.std.specs.Iterator.Adapters.{enumerate_source, enumerate_count}
-use Rattle.definitions.specs.Gate.{words_after}
-use Rattle.gate.proofs.Outcomes.{Left}
-use Rattle.reader.specs.Places.{events_of, events_from}
+use Rattle.reader.specs.Places.{events_of}
 use Rattle.reader.proofs.Laws.{split-most, split-some}
+use Rattle.day.proofs.Laws.{event-more, no-more}
 use Rattle.day.proofs.list.Goals as goal
 
 pub loop-index-init-derived : goal.loop-index-init-derived
@@ -25,13 +23,7 @@ pub bounds-event-0 : goal.bounds-event-0
 bounds-event-0 g c = split-some _ _ c.in-Some.ensures.steps.0
 
 pub loop-index-preserved : goal.loop-index-preserved
-unfolding words_after
-loop-index-preserved g c =
-    let left = events_from c.next.new.self.iter.bytes.now c.next.new.self.iter.at in
-    ap (λ (u : List ℕ). words_after u left) (ap (λ (x : Left). x.1) c.handle-answer.ensures)
-    ∙ ap (words_after c.loop-index.words) (sym c.in-Some.ensures.steps.0)
-    ∙ c.loop-index.invariant
+loop-index-preserved g c = event-more _ c.in-Some.ensures.steps.0 c.handle-answer.ensures c.loop-index.invariant
 
 pub returns : goal.returns
-unfolding words_after
-returns g c = let h = c.in-None.ensures in ap (words_after c.loop-index.words) (sym c.in-None.ensures.steps.0.0) ∙ c.loop-index.invariant
+returns g c = no-more c.in-None.ensures.steps.0.0 c.loop-index.invariant

@@ -5,8 +5,8 @@ use Rattle.definitions.specs.Answers.{ascii}
 use Rattle.day.proofs.Laws.{decimal-digits}
 use Rattle.day.proofs.write_answer.Goals as goal
 
-pub returns-in-Refused : goal.returns-in-Refused
+pub returns-in-Err : goal.returns-in-Err
 unfolding ascii
-returns-in-Refused g c =
-    let small : c.in-Refused.n < 2 ^ 32 = omega arith in
-    rw (c.in-Refused.is, ← decimal-digits) c.write.ensures.bytes
+returns-in-Err g c =
+    let small : c.number-n.result < 2 ^ 32 = omega arith in
+    rw (c.in-Err.is, ← c.number-n.ensures, ← decimal-digits) c.write.ensures.bytes

@@ -1,10 +1,8 @@
 -- `histories::run_by` meets its contract: after each turn, what is done and what is left make the whole.
-use mathlib.Core.Path.{◌≡◌, ap, sym, ◌∙◌}
+use mathlib.Core.Path.{◌≡◌, sym}
 use native.Mathlib.Omega.{arith}
 use lib.ListN.{length}
 use Rattle.std.proofs.lemmas.List.{set-get_or}
-use Rattle.definitions.specs.Answers.{answer_number}
-use Rattle.gate.proofs.Outcomes.{Left}
 use Rattle.histories.proofs.Histories.{turns-none, turns-next, turns-end, turns-full}
 use Rattle.histories.proofs.run_by.Goals as goal
 
@@ -18,13 +16,12 @@ returns-in_default g c ends gives =
 
 pub loop-count-preserved : goal.loop-count-preserved
 loop-count-preserved g c =
-    let l = c.loop-count in
-    let done = c.handle in (
+    let l = c.loop-count in (
       (c.requires.within _ _ _ l.invariant.0 c.in-Some.ensures).1,
       λ ends gives.
-          turns-next _ _ _ _ _ _ _ _ (l.invariant.1 ends gives) _ (omega arith) (sym (gives _ _ _ l.invariant.0 c.in-Some.ensures)) done.auto.words
-          (ap (λ (x : Left). x.1) done.ensures)
-          (c.answer_number.ensures ∙ ap answer_number (ap (λ (x : Left). x.0) done.ensures)),
+          turns-next _ _ _ _ _ _ _ _ (l.invariant.1 ends gives) _ (omega arith) (sym (gives _ _ _ l.invariant.0 c.in-Some.ensures)) c.handle.auto.words
+          c.handle.ensures
+          c.answer_number.ensures,
     )
 
 pub returns : goal.returns
