@@ -1,22 +1,23 @@
--- A loop that tests every number below a bound.
+-- A loop that tests every number below a bound, and ends at the first that fails.
 -- Assumes nothing.
-use mathlib.Core.Bool.{Bool, true, ◌&&◌}
-use mathlib.Core.Path.{◌≡◌, refl, sym}
-use Prim.Native.Nat.{ℕ, ◌+◌, ◌≤◌, ◌<◌}
+use mathlib.Core.Bool.{Bool, true, false, and-false}
+use mathlib.Core.Logic.{⊎_elim}
+use mathlib.Core.Path.{◌≡◌, ap}
+use Prim.Native.Nat.{ℕ, zero, suc, ◌+◌, ◌≤◌, ◌<◌}
 use native.Mathlib.Omega.{arith}
+use Rattle.std.proofs.lemmas.Bool.{cases_lt}
 use Rattle.definitions.specs.Lists.{all_below}
 use Rattle.definitions.proofs.Lists.{all_below-next}
 
-pub record Below (p : ℕ → Bool) (n : ℕ) (ok : Bool) (i : ℕ) : Type 0 where
-  pub so_far : ok ≡ all_below i p
-  pub to : i ≤ n
+module _ (p : ℕ → Bool) where
+  pub below_next : (i : ℕ) → all_below i p ≡ true → p i ≡ true → all_below (i + 1) p ≡ true
+  below_next i so_far e = rw (all_below-next p i, so_far) e
 
-pub below_none : {p : ℕ → Bool} {n : ℕ} → Below p n true 0
-unfolding all_below
-below_none = record { so_far = refl; to = omega arith }
-
-pub below_next : {p : ℕ → Bool} {n : ℕ} {ok : Bool} {i : ℕ} {found : Bool} → i < n → Below p n ok i → found ≡ p i → Below p n (ok && found) (i + 1)
-below_next {p} {n} {ok} {i} h inv e = record { so_far = rw (inv.so_far, e) (sym (all_below-next p i)); to = omega arith }
-
-pub below_end : {p : ℕ → Bool} {n : ℕ} {ok : Bool} {i : ℕ} → n ≤ i → Below p n ok i → ok ≡ all_below n p
-below_end {p} {n} {ok} {i} h inv = let end : i ≡ n = omega (arith, inv.to) in rw end at inv.so_far
+  pub below_fails : (n i : ℕ) → i < n → p i ≡ false → all_below n p ≡ false
+  unfolding all_below
+  below_fails zero i h e = absurd (omega (arith, h))
+  below_fails (suc n) i h e =
+      ⊎_elim
+      (λ (earlier : i < n). rw (below_fails n i earlier e))
+      (λ (last : n ≤ i). let here : n ≡ i = omega arith in rw (ap p here, e, and-false))
+      (cases_lt i n)

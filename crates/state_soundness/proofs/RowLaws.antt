@@ -1,6 +1,6 @@
 -- Laws of a desk's rows as they are tested: those that lead one by one, the rest as words.
 -- Assumes nothing.
-use mathlib.Core.Bool.{Bool, true, false, cond, ◌&&◌, ◌||◌, not, or-false, and-false, and_assoc}
+use mathlib.Core.Bool.{Bool, true, false, cond, ◌&&◌, ◌||◌, not, or-false, and-true, and-false, and_assoc}
 use mathlib.Core.List.{List, [], ◌∷◌, ◌++◌}
 use mathlib.Core.Logic.{⊎_elim}
 use mathlib.Core.Path.{◌≡◌, refl, ap, ap₂, sym, ◌∙◌}
@@ -55,7 +55,7 @@ any-less p q less (x ∷ xs) none =
     go false e not-q rest = rest
 
 -- words OR-ed together are 0 if each is
-pub or-zero : (a b : ℕ) → eqb (bit_or a b) 0 ≡ (eqb a 0 && eqb b 0)
+or-zero : (a b : ℕ) → eqb (bit_or a b) 0 ≡ (eqb a 0 && eqb b 0)
 or-zero a b = same (eqb (bit_or a b) 0) (eqb a 0 && eqb b 0) apart together
   where
     apart : eqb (bit_or a b) 0 ≡ true → (eqb a 0 && eqb b 0) ≡ true
@@ -67,6 +67,11 @@ or-zero a b = same (eqb (bit_or a b) 0) (eqb a 0 && eqb b 0) apart together
     together e =
         let parts = and_parts (eqb a 0) (eqb b 0) e in
         eq-eqb (bit_or a b) 0 (omega (arith, eqb-true a 0 parts.0, eqb-true b 0 parts.1, or_add_and a b))
+
+-- one word more of those that are OR-ed together
+pub zero-next : (ws : List ℕ) (bits w : ℕ) {more : ℕ} → eqb bits 0 ≡ all (equals 0) ws → more ≡ bit_or bits w → eqb more 0 ≡ all (equals 0) (ws ++ (w ∷ []))
+unfolding all
+zero-next ws bits w so_far e = rw (e, or-zero bits w, so_far, all_join (equals 0) ws (w ∷ []), and-true)
 
 -- the rows of words: the first n, and the m after them
 rows_split : (n m : ℕ) (w : List ℕ) → rows_of (n + m) w ≡ rows_of n w ++ rows_of m (drop (row_size * n) w)
@@ -158,8 +163,11 @@ module _ {securities clock : ℕ} {w : List ℕ} {largest i : ℕ} (inv : Led se
   pub led-stop : {r : Row} → r ≡ row_read i w → follows securities clock (rows_of i w) r ≡ false → Leading securities clock w i
   led-stop e last = record { to = inv.to; sound = inv.sound; differ = inv.differ; next = λ _. rw (row_is i w e) at last }
 
-  pub led-end : desk_rows ≤ i → Leading securities clock w i
-  led-end h = record { to = inv.to; sound = inv.sound; differ = inv.differ; next = λ below. absurd (omega (arith, h, below)) }
+  pub led-end : desk_rows ≤ i → Leading securities clock w desk_rows
+  led-end h =
+      let end : i ≡ desk_rows = omega (arith, inv.to) in
+      let lead : Leading securities clock w i = record { to = inv.to; sound = inv.sound; differ = inv.differ; next = λ below. absurd (omega (arith, h, below)) } in
+      rw end at lead
 
 -- rows that are all zero, as words
 zero-rows : (n : ℕ) (w : List ℕ) → length w ≡ row_size * n → all (equals 0) w ≡ all all_zero (rows_of n w)

@@ -16,25 +16,17 @@ use state_records::row_of;
 fn all_zero(words: &[u32]) -> bool
     ensures { result ≡ all (equals 0) words.now }
 {
-    let mut bits = 0;
-    let mut i = 0;
-    while i < words.len() {
-        bits = bits | words[i];
-        i += 1;
-    }
-    bits == 0
+    words.iter().fold(0, |bits, word| bits | *word) == 0
 }
 
 fn number_before(rows: &[u32], count: usize, number: u32) -> bool
     requires { (length rows.now ≡ row_size * desk_rows) × (count ≤ desk_rows) }
     ensures { result ≡ any (has_number number) (rows_of count rows.now) }
 {
-    let mut i: usize = 0;
-    while i < count {
+    for i in 0..count {
         if rows[ROW_SIZE * i + 1] == number {
             return true;
         }
-        i += 1;
     }
     false
 }
@@ -45,8 +37,7 @@ fn leading_sound(securities: u32, clock: u32, rows: &[u32]) -> usize
     ensures { Leading securities clock rows.now result }
 {
     let mut largest = 0;
-    let mut i: usize = 0;
-    while i < DESK_ROWS {
+    for i in 0..DESK_ROWS {
         let at = ROW_SIZE * i;
         let row = row_of(&rows[at..at + ROW_SIZE]);
         if !sound_marked(securities, clock, row) {
@@ -54,14 +45,11 @@ fn leading_sound(securities: u32, clock: u32, rows: &[u32]) -> usize
         }
         if largest < row.number {
             largest = row.number;
-        } else {
-            if number_before(rows, i, row.number) {
-                return i;
-            }
+        } else if number_before(rows, i, row.number) {
+            return i;
         }
-        i += 1;
     }
-    i
+    DESK_ROWS
 }
 
 // The rest begins with a free row, or with a marked one that is unsound or has a number that stands before it: such a row's mark is not 0, so that the

@@ -1,18 +1,26 @@
 -- `state_soundness::every::all_sound` meets its contract: every security below S, and every desk below C.
+use mathlib.Core.Path.{◌≡◌, ap}
+use lib.ListN.{length}
 use native.Mathlib.Omega.{arith}
+use Rattle.std.proofs.iter.Serving.{serving}
+use Rattle.definitions.specs.declared.Header.{Header}
+use Rattle.definitions.specs.State.{header_of, state_size}
 use Rattle.definitions.proofs.State.{fits-length}
 use Rattle.state_soundness.proofs.every.all_sound.Goals as goal
 
 pub header_of-h-requires : goal.header_of-h-requires
 header_of-h-requires c = omega (arith, fits-length _ c.requires)
 
-pub securities_sound-requires : goal.securities_sound-requires
-securities_sound-requires c = rw c.header_of-h.ensures (omega (arith, fits-length _ c.requires))
+pub all_below-requires : goal.all_below-requires
+all_below-requires c =
+    let words = c.args.words.now in
+    let size : length words ≡ state_size (header_of words).customers (header_of words).securities = fits-length _ c.requires in
+    let securities : c.header_of-h.result.securities ≡ (header_of words).securities = ap (λ (h : Header). h.securities) c.header_of-h.ensures in
+    grind (arith, serving)
 
-pub desks_sound-requires : goal.desks_sound-requires
-desks_sound-requires c =
-    rw c.header_of-h.ensures (omega (arith, fits-length _ c.requires))
-
-pub returns : goal.returns
-returns c =
-    rw (c.securities_sound.ensures, c.desks_sound.ensures, c.header_of-h.ensures)
+pub all_below-requires-then-all_below : goal.all_below-requires-then-all_below
+all_below-requires-then-all_below c =
+    let words = c.args.words.now in
+    let size : length words ≡ state_size (header_of words).customers (header_of words).securities = fits-length _ c.requires in
+    let customers : c.header_of-h.result.customers ≡ (header_of words).customers = ap (λ (h : Header). h.customers) c.header_of-h.ensures in
+    grind (arith, serving)

@@ -1,26 +1,16 @@
--- `state_soundness::rows::all_zero` meets its contract: whether the bits so far are 0, and what is left is, is the whole test.
-use mathlib.Core.Path.{refl}
-use native.Mathlib.Omega.{arith}
+-- `state_soundness::rows::all_zero` meets its contract: the words OR-ed together are 0 where each is.
+use mathlib.Core.Path.{◌≡◌, refl, ap, ◌∙◌}
+use borrow.Author.Rules.{rules}
 use lib.Dec.{eqb}
-use lib.ListN.{get_or}
-use Rattle.definitions.proofs.Lists.{tested-next, tested-end}
+use Rattle.std.proofs.lemmas.Fn.{fold_over, fronts, slice_gives}
+use Rattle.definitions.specs.Lists.{all}
 use Rattle.state_soundness.specs.Tested.{equals}
-use Rattle.state_soundness.proofs.RowLaws.{or-zero}
+use Rattle.state_soundness.proofs.RowLaws.{zero-next}
 use Rattle.state_soundness.proofs.rows.all_zero.Goals as goal
 
-pub loop-i-init : goal.loop-i-init
-loop-i-init c = (omega arith, refl)
-
-pub loop-i-preserved : goal.loop-i-preserved
-loop-i-preserved c =
-    let words = c.args.words.now in
-    let turn = c.loop-i in (
-      omega arith,
-      rw (or-zero turn.bits (get_or words turn.i 0))
-          (tested-next (equals 0) (eqb turn.bits 0) words turn.i 0 (eqb (get_or words turn.i 0) 0) (omega arith) refl turn.invariant.1),
-    )
-
 pub returns : goal.returns
+unfolding all
 returns c =
-    let turn = c.loop-i in
-    tested-end (equals 0) (eqb turn.bits 0) c.args.words.now turn.i (omega arith) turn.invariant.1
+    let words : c.iter.result.rest.now ≡ c.args.words.now = cc in
+    fold_over fronts (λ y. y.now) _ (λ ws bits. eqb bits 0 ≡ all (equals 0) ws) _ (λ ws bits x more f k called. (zero-next ws bits x.now k (search rules), search rules)) c.iter.result _ _ c.fold.result (slice_gives c.iter.result) refl c.fold.ensures.ran
+    ∙ ap (all (equals 0)) words

@@ -1,10 +1,6 @@
 -- `state_soundness::rows::number_before` meets its contract: each turn passes a row with another number.
-use Prim.Native.Nat.{◌-◌}
 use Rattle.state_soundness.proofs.RowLaws.{NoneSoFar}
 use Rattle.state_soundness.proofs.rows.number_before.Given as goal
 
 abbrev pub invariant-loop-i : goal.invariant-loop-i
 invariant-loop-i l = NoneSoFar l.rows l.count l.number l.i
-
-abbrev pub decreases-loop-i : goal.decreases-loop-i
-decreases-loop-i l = l.count - l.i
