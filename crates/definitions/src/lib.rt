@@ -189,10 +189,10 @@ pub enum Counter {
     Rejected,
 }
 
-// Paper 01, "Where an event is turned back": what is wrong, each condition once, in the order of their numbers.
+// Paper 01, "Where an event is turned back": what is wrong, under the paper's numbers.
 #[derive(Clone, Copy, Debug, PartialEq, Eq)]
 pub enum Refusal {
-    State,
+    State = 1,
     Length,
     Kind,
     Name,
@@ -208,11 +208,11 @@ pub enum Refusal {
 }
 
 impl Refusal {
-    // "An answer may be an enum. If so, a definition gives this paper's number".
+    // The paper's number, for callers in other languages.
     pub fn number(self) -> u32
         ensures { result ≡ refusal_number self }
     {
-        self as u32 + 1
+        self as u32
     }
 }
 
