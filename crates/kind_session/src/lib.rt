@@ -36,12 +36,9 @@ fn clear_projected(words: &mut [u32])
     ensures { words.new ≡ each (header_of words.old).securities (change_security without_projected) words.old }
 {
     let h = header_of(words);
-    let securities = h.securities;
-    let mut s = 0;
-    while s < securities {
+    for s in 0..h.securities {
         let security = state_records::security_at(words, s);
         state_records::put_security(words, s, securities::without_projected(security));
-        s += 1;
     }
 }
 
@@ -51,11 +48,8 @@ fn change_desks(words: &mut [u32])
     ensures { words.new ≡ each (header_of words.old).customers (change_desk (changed session_row)) words.old }
 {
     let h = header_of(words);
-    let customers = h.customers;
-    let mut k = 0;
-    while k < customers {
+    for k in 0..h.customers {
         let desk = state_records::desk_at(words, k);
         state_records::put_desk(words, k, desks::session_changed(desk));
-        k += 1;
     }
 }

@@ -4,12 +4,8 @@ use native.Mathlib.Omega.{arith}
 use Rattle.definitions.specs.declared.Header.{Header}
 use Rattle.definitions.specs.State.{put_desk}
 use Rattle.definitions.specs.Desks.{changed, session_row}
-use Rattle.state.proofs.Fits.{header-words}
 use Rattle.kind_session.proofs.Laws.{changed_at, so-far-start, so-far-next, so-far-end, changed-room, changed-length}
 use Rattle.kind_session.proofs.change_desks.Goals as goal
-
-pub overflow_add-k : goal.overflow_add-k
-overflow_add-k c = omega (arith, c.type_inv.words 0, ap (λ (h : Header). h.customers) c.header_of-h.ensures, ap (λ (h : Header). h.customers) (header-words c.args.words.now))
 
 pub loop-k-preserved : goal.loop-k-preserved
 loop-k-preserved c =

@@ -4,12 +4,8 @@ use native.Mathlib.Omega.{arith}
 use Rattle.definitions.specs.declared.Header.{Header}
 use Rattle.definitions.specs.State.{put_security}
 use Rattle.definitions.specs.Securities.{without_projected}
-use Rattle.state.proofs.Fits.{header-words}
 use Rattle.kind_session.proofs.Laws.{cleared_at, so-far-start, so-far-next, so-far-end, cleared-room, cleared-length}
 use Rattle.kind_session.proofs.clear_projected.Goals as goal
-
-pub overflow_add-s : goal.overflow_add-s
-overflow_add-s c = omega (arith, c.type_inv.words 1, ap (λ (h : Header). h.securities) c.header_of-h.ensures, ap (λ (h : Header). h.securities) (header-words c.args.words.now))
 
 pub loop-s-preserved : goal.loop-s-preserved
 loop-s-preserved c =
