@@ -160,9 +160,6 @@ pub record Sought (number : ℕ) (w : List ℕ) (i : ℕ) : Type 0 where
   pub to : i ≤ desk_rows
 
 module _ {number : ℕ} {w : List ℕ} where
-  pub sought-start : Sought number w 0
-  sought-start = record { so_far = omega arith; to = omega arith }
-
   module _ {i : ℕ} (c : Sought number w i) where
     ended : place_of number (drop i (rows_of desk_rows w)) ≡ 0 → {row : Row} → row ≡ get_or (rows_of desk_rows w) i free_row → record { place = i; row = row } ≡ row_with number (rows_of desk_rows w)
     unfolding row_with
