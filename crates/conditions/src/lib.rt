@@ -3,7 +3,7 @@
 
 ghost use Rattle.std.specs.Prelude.{true, cond, ◌≡◌};
 ghost use Rattle.definitions.specs.State.{state_fits};
-ghost use Rattle.definitions.specs.Answers.{refusal_number, refused_number};
+ghost use Rattle.definitions.specs.Answers.{refusal_number, refused_by};
 ghost use Rattle.definitions.specs.Refusals.{bad_code};
 ghost use Rattle.kind_contract.specs.First.{first_refusal};
 
@@ -17,7 +17,7 @@ use state_soundness::{all_sound, priced_as, sound_desk_at, sound_security_at};
 // each condition: the compiler then goes on from an event that has passed to the function of its kind without a second match.
 pub fn first_refusal(words: &[u32], e: Event) -> Result<(), Refusal>
     requires { state_fits words.now ≡ true }
-    ensures { refused_number result ≡ first_refusal words.now e }
+    ensures { refused_by result ≡ first_refusal words.now e }
 {
     let h = state::header_of(words);
     match e {
@@ -112,7 +112,7 @@ pub fn first_refusal(words: &[u32], e: Event) -> Result<(), Refusal>
 }
 
 fn refused_if(met: bool, refusal: Refusal) -> Result<(), Refusal>
-    ensures { refused_number result ≡ cond met (refusal_number refusal) 0 }
+    ensures { refused_by result ≡ cond met (refusal_number refusal) 0 }
 {
     if met { Err(refusal) } else { Ok(()) }
 }

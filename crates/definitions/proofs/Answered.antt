@@ -32,10 +32,10 @@ refusals =
     ∷ refusal.Figures
     ∷ []
 
-abbrev numbered : ℕ → Refusal
-numbered n = get_or refusals (n - 1) refusal.State
+abbrev refusal_of : ℕ → Refusal
+refusal_of n = get_or refusals (n - 1) refusal.State
 
-refusal-back : (r : Refusal) → numbered (refusal_number r) ≡ r
+refusal-back : (r : Refusal) → refusal_of (refusal_number r) ≡ r
 refusal-back refusal.State = refl
 refusal-back refusal.Length = refl
 refusal-back refusal.Kind = refl
@@ -53,7 +53,7 @@ refusal-back refusal.Figures = refl
 abbrev given : Answer → Given
 given answer.Ok = Ok None
 given (answer.Verdict v) = Ok (Some v)
-given (answer.Refused n) = Err (numbered n)
+given (answer.Refused n) = Err (refusal_of n)
 
 given-back : (a : Given) → given (answered a) ≡ a
 given-back (Ok None) = refl

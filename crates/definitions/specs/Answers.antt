@@ -36,15 +36,15 @@ answered (result.Ok None) = Ok
 answered (result.Ok (Some v)) = Verdict v
 answered (result.Err r) = Refused (refusal_number r)
 
--- the same number where an event, or nothing, is given if no condition is met
-abbrev pub numbered : {A : Type 0} → Result A Refusal → Result A ℕ
-numbered (result.Ok a) = result.Ok a
-numbered (result.Err r) = result.Err (refusal_number r)
+-- what is given where nothing is wrong, or the number of what is
+abbrev pub by_number : {A : Type 0} → Result A Refusal → Result A ℕ
+by_number (result.Ok a) = result.Ok a
+by_number (result.Err r) = result.Err (refusal_number r)
 
--- 0 where no condition is met
-abbrev pub refused_number : Result (Unit {0}) Refusal → ℕ
-refused_number (result.Ok x) = 0
-refused_number (result.Err r) = refusal_number r
+-- the number of the condition that is met; 0 where none is
+abbrev pub refused_by : Result (Unit {0}) Refusal → ℕ
+refused_by (result.Ok x) = 0
+refused_by (result.Err r) = refusal_number r
 
 -- a reject is 200 and the place of its letter in the alphabet
 abbrev pub verdict_number : verdicts.Verdict → ℕ

@@ -3,7 +3,7 @@
 
 ghost use Rattle.std.specs.Prelude.{◌≡◌, ◌+◌, ◌*◌, ◌≤◌, ◌<◌, length, get_or};
 ghost use Rattle.definitions.specs.Events.{two, four, length_of, clock_of, session_of, setup_of, prices_of, order_of, cancel_of, match_of, rest_of, figures_of, event_of};
-ghost use Rattle.definitions.specs.Answers.{numbered};
+ghost use Rattle.definitions.specs.Answers.{by_number};
 ghost use Rattle.events.specs.Kinds.{kind_number};
 ghost use Rattle.events.specs.Readings.{read_event};
 
@@ -17,7 +17,7 @@ mod kind;
 
 // "an unknown kind is found before a wrong length"
 pub fn read_event(bytes: &[u8]) -> Result<Event, Refusal>
-    ensures { numbered result ≡ read_event bytes.now }
+    ensures { by_number result ≡ read_event bytes.now }
 {
     if bytes.is_empty() {
         return Err(Refusal::Length);

@@ -12,7 +12,7 @@ use borrow.Author.Tests.{eq-eqb, ne_eqb}
 use Rattle.definitions.specs.declared.Event.{Event}
 use Rattle.definitions.specs.declared.Refusal.{Refusal}
 use Rattle.definitions.specs.declared.Refusal.TheVariants as refusal
-use Rattle.definitions.specs.Answers.{Answer, numbered, refusal_number, refused_number}
+use Rattle.definitions.specs.Answers.{Answer, by_number, refusal_number, refused_by}
 use Rattle.definitions.specs.Answers as answer
 use Rattle.definitions.specs.Lists.{first_met}
 use Rattle.definitions.specs.State.{state_fits, sizes_fit, state_size, fresh}
@@ -45,13 +45,13 @@ module _ (w b : List ℕ) where
       go n true zero = refl
       go n false some = rw some
 
-  pub outcome-refused : state_fits w ≡ true → {r : Result Event Refusal} → numbered r ≡ read_event b → {x : Refusal} → r ≡ Err x
+  pub outcome-refused : state_fits w ≡ true → {r : Result Event Refusal} → by_number r ≡ read_event b → {x : Refusal} → r ≡ Err x
       → ◌≡◌ {A = Left} (answer.Refused (refusal_number x), w) (result_of w (outcome w b))
-  outcome-refused fits er ex = ap (λ (x : Result Event ℕ). result_of w (outcome_of w x)) (ap numbered (sym ex) ∙ er) ∙ ap (result_of w) (sym (reads fits))
+  outcome-refused fits er ex = ap (λ (x : Result Event ℕ). result_of w (outcome_of w x)) (ap by_number (sym ex) ∙ er) ∙ ap (result_of w) (sym (reads fits))
 
-  pub outcome-whole : state_fits w ≡ true → {r : Result Event Refusal} → numbered r ≡ read_event b → {e : Event} → r ≡ Ok e → {x : Left} → x ≡ result_of w (event_outcome w e) → x ≡ result_of w (outcome w b)
+  pub outcome-whole : state_fits w ≡ true → {r : Result Event Refusal} → by_number r ≡ read_event b → {e : Event} → r ≡ Ok e → {x : Left} → x ≡ result_of w (event_outcome w e) → x ≡ result_of w (outcome w b)
   outcome-whole fits er ew ex =
-      ex ∙ ap (λ (x : Result Event ℕ). result_of w (outcome_of w x)) (ap numbered (sym ew) ∙ er) ∙ ap (result_of w) (sym (reads fits))
+      ex ∙ ap (λ (x : Result Event ℕ). result_of w (outcome_of w x)) (ap by_number (sym ew) ∙ er) ∙ ap (result_of w) (sym (reads fits))
 
 -- no condition has the number 0
 numbered-some : (x : Refusal) → refusal_number x ≡ 0 → ⊥
@@ -70,16 +70,16 @@ numbered-some refusal.FullDesk e = omega (arith, e)
 numbered-some refusal.Figures e = omega (arith, e)
 
 -- an event: conditions 4 to 8, or its kind's function
-module _ (w : List ℕ) (e : Event) {r : Result (Unit {0}) Refusal} (first : refused_number r ≡ first_refusal w e) where
+module _ (w : List ℕ) (e : Event) {r : Result (Unit {0}) Refusal} (first : refused_by r ≡ first_refusal w e) where
   pub event-refused : {x : Refusal} → r ≡ Err x → ◌≡◌ {A = Left} (answer.Refused (refusal_number x), w) (result_of w (event_outcome w e))
   event-refused {x} met =
       ap (λ (t : Bool). result_of w (cond t (later_outcome w e) (refused (refusal_number x)))) (sym (ne_eqb (refusal_number x) 0 (numbered-some x)))
-      ∙ ap (λ (m : ℕ). result_of w (cond (eqb m 0) (later_outcome w e) (refused m))) (ap refused_number (sym met) ∙ first)
+      ∙ ap (λ (m : ℕ). result_of w (cond (eqb m 0) (later_outcome w e) (refused m))) (ap refused_by (sym met) ∙ first)
       ∙ ap (result_of w) (sym (by_parts w e))
 
   module _ {u : Unit {0}} (passed : r ≡ Ok u) where
     none-met : first_refusal w e ≡ 0
-    none-met = sym first ∙ ap refused_number passed
+    none-met = sym first ∙ ap refused_by passed
 
     pub event-ready : state_fits w ≡ true → Ready w e
     event-ready fits = record { fits = fits; passed = none-met }
