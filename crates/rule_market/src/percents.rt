@@ -10,9 +10,9 @@ use rule_references::{in_auction, reference_30, reference_q};
 fn outside(low: u32, high: u32, reference: u32, price: u32) -> bool
     ensures { result ≡ outside low high reference price }
 {
-    let from = reference as u64;
-    let to = price as u64;
-    !(reference == 0) & (((high as u64) * from < 100 * to) | (100 * to < (low as u64) * from))
+    let from = u64::from(reference);
+    let to = u64::from(price);
+    (reference != 0) & ((u64::from(high) * from < 100 * to) | (100 * to < u64::from(low) * from))
 }
 
 pub fn rule_q(m: MarketView, o: Order) -> bool

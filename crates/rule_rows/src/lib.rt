@@ -92,7 +92,7 @@ fn any_marked<F: Fn(Row) -> bool>(rows: &[Row; DESK_ROWS], meets: F) -> bool
 fn half_or_more(volume: u32, cancelled: u32) -> bool
     ensures { result ≡ leb cancelled (2 * volume) }
 {
-    (cancelled as u64) <= 2 * (volume as u64)
+    u64::from(cancelled) <= 2 * u64::from(volume)
 }
 
 // Few rows are cancelled: of the others nothing more is tested.
