@@ -45,8 +45,6 @@ pub const MAX_SHARES: u32 = 65_535;
 
 pub const DESK_ROWS: usize = 32;
 
-pub const MAX_COUNT: u32 = 4_294_967_295;
-
 pub const MINUTE: u64 = 60_000;
 
 // The words of the header that an event sets.
