@@ -114,15 +114,26 @@ fn distance_to(reference: u32, line: Line) -> u32
     line.price.abs_diff(reference)
 }
 
-// The request's four steps.
+// The request's four steps, each a test of its own: by `cmp` and `then` the loops that ask this take longer (docs/DESIGN-PASS.md).
 fn beats(reference: u32, line: Line, other: Line) -> bool
     ensures { result ≡ beats reference line other }
 {
-    let volume = volume_of(line).cmp(&volume_of(other));
-    let difference = difference_of(other).cmp(&difference_of(line));
-    let distance = distance_to(reference, other).cmp(&distance_to(reference, line));
-    let price = line.price.cmp(&other.price);
-    volume.then(difference).then(distance).then(price).is_gt()
+    let volume = volume_of(line);
+    let other_volume = volume_of(other);
+    if volume != other_volume {
+        return other_volume < volume;
+    }
+    let difference = difference_of(line);
+    let other_difference = difference_of(other);
+    if difference != other_difference {
+        return difference < other_difference;
+    }
+    let distance = distance_to(reference, line);
+    let other_distance = distance_to(reference, other);
+    if distance != other_distance {
+        return distance < other_distance;
+    }
+    other.price < line.price
 }
 
 pub fn better(reference: u32, line: Line, best: Line) -> Line
