@@ -18,8 +18,7 @@ pub struct RowAt {
 }
 
 #[tactic(auto, using(crate::proofs::SearchLaws::sought_next, crate::proofs::SearchLaws::sought_here, crate::proofs::SearchLaws::sought_end))]
-fn row_in(rows: &[u32], number: u32) -> RowAt
-    requires { length rows.now ≡ row_size * desk_rows }
+fn row_in(rows: &[u32; ROWS_SIZE], number: u32) -> RowAt
     ensures { result ≡ row_with number (rows_of desk_rows rows.now) }
 {
     for i in 0..DESK_ROWS {
@@ -42,5 +41,6 @@ pub fn row_with(words: &[u32], k: u32, number: u32) -> RowAt
     ensures { result ≡ row_with number (desk_at words.now k).rows }
 {
     let from = desk_place_in(words, k) + COUNTERS_SIZE;
-    row_in(&words[from..from + ROWS_SIZE], number)
+    let rows = <&[u32; ROWS_SIZE]>::try_from(&words[from..from + ROWS_SIZE]).unwrap();
+    row_in(rows, number)
 }

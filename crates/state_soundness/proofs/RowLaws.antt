@@ -261,14 +261,14 @@ module _ (securities clock : ℕ) where
 
 -- the test of the words behind the rows that lead is the definition's test of all rows
 pub rows-tested : {securities clock n : ℕ} {w : List ℕ} {free : Bool} → length w ≡ row_size * desk_rows → Leading securities clock w n
-    → free ≡ all (equals 0) (take (length w - row_size * n) (drop (row_size * n) w)) → free ≡ sound_rows securities clock (rows_of desk_rows w)
+    → free ≡ all (equals 0) (take (row_size * desk_rows - row_size * n) (drop (row_size * n) w)) → free ≡ sound_rows securities clock (rows_of desk_rows w)
 unfolding part
 rows-tested {securities} {clock} {n} {w} size lead e =
     let words : List ℕ = drop (row_size * n) w in
     let left : length words ≡ row_size * (desk_rows - n) = length-drop (row_size * n) w ∙ (omega (arith, lead.to)) in
     let whole : n + (desk_rows - n) ≡ desk_rows = omega (arith, lead.to) in
     e
-    ∙ ap (all (equals 0)) (take_all (length w - row_size * n) words (omega (arith, left)))
+    ∙ ap (all (equals 0)) (take_all (row_size * desk_rows - row_size * n) words (omega (arith, left)))
     ∙ zero-rows (desk_rows - n) words left
     ∙ rest-tested securities clock (rows_of n w) lead.sound lead.differ (desk_rows - n) words (λ some. lead.next (omega (arith, some)))
     ∙ ap (λ (rs : List Row). sound_rows securities clock rs) (sym (rows_split n (desk_rows - n) w) ∙ ap (λ (k : ℕ). rows_of k w) whole)

@@ -19,8 +19,8 @@ fn all_zero(words: &[u32]) -> bool
     words.iter().fold(0, |bits, word| bits | *word) == 0
 }
 
-fn number_before(rows: &[u32], count: usize, number: u32) -> bool
-    requires { (length rows.now ≡ row_size * desk_rows) × (count ≤ desk_rows) }
+fn number_before(rows: &[u32; ROWS_SIZE], count: usize, number: u32) -> bool
+    requires { count ≤ desk_rows }
     ensures { result ≡ any (has_number number) (rows_of count rows.now) }
 {
     for i in 0..count {
@@ -32,8 +32,7 @@ fn number_before(rows: &[u32], count: usize, number: u32) -> bool
 }
 
 // A number above all before it is compared with none: the numbers of orders mostly ascend.
-fn leading_sound(securities: u32, clock: u32, rows: &[u32]) -> usize
-    requires { length rows.now ≡ row_size * desk_rows }
+fn leading_sound(securities: u32, clock: u32, rows: &[u32; ROWS_SIZE]) -> usize
     ensures { Leading securities clock rows.now result }
 {
     let mut largest = 0;
@@ -54,8 +53,7 @@ fn leading_sound(securities: u32, clock: u32, rows: &[u32]) -> usize
 
 // The rest begins with a free row, or with a marked one that is unsound or has a number that stands before it: such a row's mark is not 0, so that the
 // test of the free rows refuses it too.
-fn sound_rows(securities: u32, clock: u32, rows: &[u32]) -> bool
-    requires { length rows.now ≡ row_size * desk_rows }
+fn sound_rows(securities: u32, clock: u32, rows: &[u32; ROWS_SIZE]) -> bool
     ensures { result ≡ sound_rows securities clock (rows_of desk_rows rows.now) }
 {
     let count = leading_sound(securities, clock, rows);
@@ -69,5 +67,6 @@ pub fn sound_desk_at(words: &[u32], k: u32) -> bool
 {
     let h = header_of(words);
     let from = desk_place_in(words, k) + COUNTERS_SIZE;
-    sound_rows(h.securities, h.clock, &words[from..from + ROWS_SIZE])
+    let rows = <&[u32; ROWS_SIZE]>::try_from(&words[from..from + ROWS_SIZE]).unwrap();
+    sound_rows(h.securities, h.clock, rows)
 }
