@@ -13,7 +13,6 @@ pub fn handle(words: &mut [u32], x: BoardPrices) -> Answer
     requires { Ready words.old (event.Prices x) }
     ensures { (answered result, words.new) ≡ result_of words.old (later_outcome words.old (event.Prices x)) }
 {
-    let s = state_records::security_at(words, x.security);
-    state_records::put_security(words, x.security, securities::after_prices(x, s));
+    state_records::change_security(words, x.security, |s| securities::after_prices(x, s));
     Ok(None)
 }

@@ -37,8 +37,7 @@ fn clear_projected(words: &mut [u32])
 {
     let h = header_of(words);
     for s in 0..h.securities {
-        let security = state_records::security_at(words, s);
-        state_records::put_security(words, s, securities::without_projected(security));
+        state_records::change_security(words, s, securities::without_projected);
     }
 }
 
@@ -49,7 +48,6 @@ fn change_desks(words: &mut [u32])
 {
     let h = header_of(words);
     for k in 0..h.customers {
-        let desk = state_records::desk_at(words, k);
-        state_records::put_desk(words, k, desks::session_changed(desk));
+        state_records::change_desk(words, k, desks::session_changed);
     }
 }

@@ -13,7 +13,6 @@ pub fn handle(words: &mut [u32], x: Setup) -> Answer
     requires { Ready words.old (event.Setup x) }
     ensures { (answered result, words.new) ≡ result_of words.old (later_outcome words.old (event.Setup x)) }
 {
-    let s = state_records::security_at(words, x.security);
-    state_records::put_security(words, x.security, securities::after_setup(x, s));
+    state_records::change_security(words, x.security, |s| securities::after_setup(x, s));
     Ok(None)
 }

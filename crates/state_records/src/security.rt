@@ -1,5 +1,6 @@
 // Paper 01, "The lent state": a security's words, taken out and put back as one record.
 ghost use Rattle.std.specs.Prelude.{◌≡◌, ◌+◌, ◌≤◌, length};
+ghost use Rattle.definitions.specs.Gate.{change_security};
 ghost use Rattle.definitions.specs.State.{security_size, security_place, security_of, security_words, security_at, put_security};
 
 use definitions::codes::SECURITY_SIZE;
@@ -88,4 +89,14 @@ pub fn put_security(words: &mut [u32], s: u32, x: Security)
 {
     let at = security_place(s);
     copy_in(words, at, &security_words(x));
+}
+
+// A security as an event leaves it, put back where it was taken out.
+pub fn change_security<F: FnOnce(Security) -> Security>(words: &mut [u32], s: u32, becomes: F)
+    requires stands { security_place s + security_size ≤ length words.old }
+    requires callable { F.IsAlwaysCallable becomes }
+    ensures { (f : _) → ((x : _) (left : _) → F.post becomes x left → left ≡ f x) → words.new ≡ change_security f s words.old }
+{
+    let security = security_at(words, s);
+    put_security(words, s, becomes(security));
 }
