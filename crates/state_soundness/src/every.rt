@@ -13,19 +13,19 @@ pub fn all_sound(words: &[u32]) -> bool
     ensures { result ≡ all_sound words.now }
 {
     let h = header_of(words);
-    all_below(h.securities, |s| sound_security_at(words, s))
-        && all_below(h.customers, |k| sound_desk_at(words, k))
+    let securities = all_below(h.securities, |s| sound_security_at(words, s));
+    let desks = all_below(h.customers, |k| sound_desk_at(words, k));
+    securities & desks
 }
 
-// Whether every record is sound whose number is below a count.
+// Whether every record is sound whose number is below a count. Mostly all are: ending at the first that is not takes longer.
 fn all_below<F: Fn(u32) -> bool>(count: u32, sound: F) -> bool
     requires { (i : _) → i < count → F.pre sound i }
     ensures { (p : _) → ((i : _) (met : _) → i < count → F.post sound i met → met ≡ p i) → result ≡ all_below count p }
 {
+    let mut all = true;
     for i in 0..count {
-        if !sound(i) {
-            return false;
-        }
+        all &= sound(i);
     }
-    true
+    all
 }

@@ -1,5 +1,5 @@
--- `state_soundness::every::all_below` meets its contract: every record so far is sound.
-use mathlib.Core.Bool.{Bool, true}
+-- `state_soundness::every::all_below` meets its contract: whether the records so far are sound.
+use mathlib.Core.Bool.{Bool}
 use mathlib.Core.Path.{◌≡◌}
 use Prim.Native.Nat.{ℕ, ◌<◌}
 use Rattle.definitions.specs.Lists.{all_below}
@@ -7,4 +7,4 @@ use Rattle.state_soundness.proofs.every.all_below.Given as goal
 
 abbrev pub invariant-loop-i : goal.invariant-loop-i
 invariant-loop-i g l =
-    (p : ℕ → Bool) → ((i : ℕ) (met : Bool) → i < l.count → goal.F-post g l.sound i met → met ≡ p i) → all_below l.i p ≡ true
+    (p : ℕ → Bool) → ((i : ℕ) (met : Bool) → i < l.count → goal.F-post g l.sound i met → met ≡ p i) → l.all ≡ all_below l.i p

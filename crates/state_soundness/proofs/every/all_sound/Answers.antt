@@ -11,15 +11,15 @@ use Rattle.state_soundness.proofs.every.all_sound.Goals as goal
 pub header_of-h-requires : goal.header_of-h-requires
 header_of-h-requires c = omega (arith, fits-length _ c.requires)
 
-pub all_below-requires : goal.all_below-requires
-all_below-requires c =
+pub all_below-securities-requires : goal.all_below-securities-requires
+all_below-securities-requires c =
     let words = c.args.words.now in
     let size : length words ≡ state_size (header_of words).customers (header_of words).securities = fits-length _ c.requires in
     let securities : c.header_of-h.result.securities ≡ (header_of words).securities = ap (λ (h : Header). h.securities) c.header_of-h.ensures in
     grind (arith, serving)
 
-pub all_below-requires-then-all_below : goal.all_below-requires-then-all_below
-all_below-requires-then-all_below c =
+pub all_below-desks-requires : goal.all_below-desks-requires
+all_below-desks-requires c =
     let words = c.args.words.now in
     let size : length words ≡ state_size (header_of words).customers (header_of words).securities = fits-length _ c.requires in
     let customers : c.header_of-h.result.customers ≡ (header_of words).customers = ap (λ (h : Header). h.customers) c.header_of-h.ensures in
