@@ -62,4 +62,5 @@ pub mod RangeCorners
 pub mod OrderCorners
 pub mod EventCases
 pub mod AnswerCases
+-- what the code gives, told apart
 pub mod Answered
