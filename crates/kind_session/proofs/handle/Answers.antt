@@ -1,7 +1,6 @@
 -- `kind_session::handle` meets its contract: the same session changes nothing, and another one all that the definition says.
-use mathlib.Core.Path.{refl, ◌∙◌}
+use mathlib.Core.Path.{refl}
 use native.Mathlib.Omega.{arith}
-use lib.ListN.{length-set}
 use Rattle.kind_contract.proofs.Laws.{later-done, nothing-later, header-fits}
 use Rattle.kind_session.proofs.Laws.{session-long, cleared-long, session-same, session-done}
 use Rattle.kind_session.proofs.handle.Goals as goal
@@ -25,6 +24,3 @@ clear_projected-requires c = session-long _ c.requires.fits _
 
 pub change_desks-requires : goal.change_desks-requires
 change_desks-requires c = cleared-long _ c.requires.fits _ c.clear_projected.ensures
-
-pub shape_of-words : goal.shape_of-words
-shape_of-words c = c.change_desks.auto.words ∙ c.clear_projected.auto.words ∙ simp length-set
