@@ -94,7 +94,7 @@ pub fn put_security(words: &mut [u32], s: u32, x: Security)
 // A security as an event leaves it, put back where it was taken out.
 pub fn change_security<F: FnOnce(Security) -> Security>(words: &mut [u32], s: u32, becomes: F)
     requires stands { security_place s + security_size ≤ length words.old }
-    requires callable { F.IsAlwaysCallable becomes }
+    requires callable { F.pre becomes (security_at words.old s) }
     ensures { (f : _) → ((x : _) (left : _) → F.post becomes x left → left ≡ f x) → words.new ≡ change_security f s words.old }
 {
     let security = security_at(words, s);

@@ -19,9 +19,6 @@ returns-else-t-gt-LAST_TIME c = found _ c.header_of-h.ensures c.in-Clock.is (bel
 pub returns-then-s-gt-PRE_CLOSE : goal.returns-then-s-gt-PRE_CLOSE
 returns-then-s-gt-PRE_CLOSE c = found _ c.header_of-h.ensures c.in-Session.is (below refl (here (lt-ltb _ _ c.if-s-gt-PRE_CLOSE.true)))
 
-pub all_sound-requires : goal.all_sound-requires
-all_sound-requires c = c.requires
-
 pub returns-else-s-gt-PRE_CLOSE : goal.returns-else-s-gt-PRE_CLOSE
 returns-else-s-gt-PRE_CLOSE c = found _ c.header_of-h.ensures c.in-Session.is (below refl (below (le-ltb _ _ c.if-s-gt-PRE_CLOSE.false) (by-records c.all_sound.ensures c.refused_if-in-Session.ensures)))
 

@@ -13,6 +13,3 @@ pub returns : goal.returns
 returns c =
     let d = c.args.d in
     ap (λ rows. with_rows rows d) (sym (left-marked _ _ d.rows c.if-left-eq0.false))
-
-pub removed-requires : goal.removed-requires
-removed-requires c = c.requires

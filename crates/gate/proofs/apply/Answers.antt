@@ -1,52 +1,22 @@
 -- `gate::apply` meets its contract: conditions 4 to 8, or the function of the event's kind.
 use mathlib.Core.List.{List}
 use Prim.Native.Nat.{ℕ}
-use mathlib.Core.Path.{◌≡◌, ap, sym, subst, ◌∙◌}
+use mathlib.Core.Path.{◌≡◌, ap, sym, ◌∙◌}
 use Rattle.std.proofs.lemmas.Result.{err_from_is_err_and}
 use Rattle.definitions.specs.declared.Event.{Event}
 use Rattle.definitions.specs.Gate.{result_of}
-use Rattle.kind_contract.specs.First.{Ready, later_outcome}
-use Rattle.gate.proofs.Outcomes.{Left, event-refused, event-ready, event-later}
+use Rattle.kind_contract.specs.First.{later_outcome}
+use Rattle.gate.proofs.Outcomes.{Left, event-refused, event-later}
 use Rattle.gate.proofs.apply.Goals as goal
 
 -- what an event of a kind leaves is what the event that was read leaves
 of-kind : (w : List ℕ) {e f : Event} → e ≡ f → {x : Left} → x ≡ result_of w (later_outcome w f) → x ≡ result_of w (later_outcome w e)
 of-kind w kind does = does ∙ ap (λ (g : Event). result_of w (later_outcome w g)) (sym kind)
 
-pub first_refusal-requires : goal.first_refusal-requires
-first_refusal-requires c = c.requires
-
 pub returns-in_err-first_refusal : goal.returns-in_err-first_refusal
 returns-in_err-first_refusal c =
     let p = err_from_is_err_and c.from_residual.result c.from_residual.ensures.1 in
     rw (p.1, p.2) (event-refused _ _ c.first_refusal.ensures c.in_err-first_refusal.was)
-
-pub handle-requires : goal.handle-requires
-handle-requires c = subst (Ready _) c.in-Clock.is (event-ready _ _ c.first_refusal.ensures c.in_ok-first_refusal.was c.requires)
-
-pub handle-requires-in-Session : goal.handle-requires-in-Session
-handle-requires-in-Session c = subst (Ready _) c.in-Session.is (event-ready _ _ c.first_refusal.ensures c.in_ok-first_refusal.was c.requires)
-
-pub handle-requires-in-Setup : goal.handle-requires-in-Setup
-handle-requires-in-Setup c = subst (Ready _) c.in-Setup.is (event-ready _ _ c.first_refusal.ensures c.in_ok-first_refusal.was c.requires)
-
-pub handle-requires-in-Prices : goal.handle-requires-in-Prices
-handle-requires-in-Prices c = subst (Ready _) c.in-Prices.is (event-ready _ _ c.first_refusal.ensures c.in_ok-first_refusal.was c.requires)
-
-pub handle-requires-in-Order : goal.handle-requires-in-Order
-handle-requires-in-Order c = subst (Ready _) c.in-Order.is (event-ready _ _ c.first_refusal.ensures c.in_ok-first_refusal.was c.requires)
-
-pub handle-requires-in-Cancel : goal.handle-requires-in-Cancel
-handle-requires-in-Cancel c = subst (Ready _) c.in-Cancel.is (event-ready _ _ c.first_refusal.ensures c.in_ok-first_refusal.was c.requires)
-
-pub handle-requires-in-Match : goal.handle-requires-in-Match
-handle-requires-in-Match c = subst (Ready _) c.in-Match.is (event-ready _ _ c.first_refusal.ensures c.in_ok-first_refusal.was c.requires)
-
-pub handle-requires-in-Rest : goal.handle-requires-in-Rest
-handle-requires-in-Rest c = subst (Ready _) c.in-Rest.is (event-ready _ _ c.first_refusal.ensures c.in_ok-first_refusal.was c.requires)
-
-pub handle-requires-in-Figures : goal.handle-requires-in-Figures
-handle-requires-in-Figures c = subst (Ready _) c.in-Figures.is (event-ready _ _ c.first_refusal.ensures c.in_ok-first_refusal.was c.requires)
 
 pub returns-in-Clock : goal.returns-in-Clock
 returns-in-Clock c = event-later _ _ c.first_refusal.ensures c.in_ok-first_refusal.was (of-kind c.args.words.now c.in-Clock.is c.handle.ensures)

@@ -12,8 +12,5 @@ returns-in_default c =
     let unread : c.map.result ≡ Err c.in_default.field-0 = search rules in
     rw unread (outcome-refused _ _ (sym c.state_fits.ensures ∙ c.if-not-state_fits.false) c.read_event-reading.ensures c.in_default.is)
 
-pub apply-requires : goal.apply-requires
-apply-requires c = sym c.state_fits.ensures ∙ c.if-not-state_fits.false
-
 pub returns : goal.returns
 returns c = outcome-whole _ _ (sym c.state_fits.ensures ∙ c.if-not-state_fits.false) c.read_event-reading.ensures c.in-Ok.is c.apply.ensures

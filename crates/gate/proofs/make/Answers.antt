@@ -9,8 +9,5 @@ returns-then-not-sizes_fit c = make-misfit _ _ _ (sym c.sizes_fit.ensures ∙ c.
 pub returns-then-words-desk_place : goal.returns-then-words-desk_place
 returns-then-words-desk_place c = make-other-length _ _ _ (λ e. c.if-words-desk_place.true (e ∙ sym c.desk_place.ensures))
 
-pub make_fresh-requires : goal.make_fresh-requires
-make_fresh-requires c = (c.if-words-desk_place.false ∙ c.desk_place.ensures, sym c.sizes_fit.ensures ∙ c.if-not-sizes_fit.false)
-
 pub returns : goal.returns
 returns c = make-done _ _ _ (sym c.sizes_fit.ensures ∙ c.if-not-sizes_fit.false) (c.if-words-desk_place.false ∙ c.desk_place.ensures) c.make_fresh.ensures

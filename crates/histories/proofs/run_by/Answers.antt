@@ -3,11 +3,8 @@ use mathlib.Core.Path.{◌≡◌, sym}
 use native.Mathlib.Omega.{arith}
 use lib.ListN.{length}
 use Rattle.std.proofs.lemmas.List.{set-get_or}
-use Rattle.histories.proofs.Histories.{turns-none, turns-next, turns-end, turns-full}
+use Rattle.histories.proofs.Histories.{turns-next, turns-end, turns-full}
 use Rattle.histories.proofs.run_by.Goals as goal
-
-pub loop-count-init : goal.loop-count-init
-loop-count-init g c = (omega arith, λ ends gives. turns-none ends _ _ _)
 
 pub returns-in_default : goal.returns-in_default
 returns-in_default g c ends gives =

@@ -2,7 +2,6 @@
 use mathlib.Core.Bool.{and-eq-true_iff}
 use mathlib.Core.Path.{refl}
 use Prim.Native.Nat.{◌<◌}
-use native.Mathlib.Omega.{arith}
 use lib.Dec.{ltb}
 use borrow.Author.Tests.{ltb-true}
 use Rattle.ladder.specs.Ladder.{last_band, band_of_position, price_at}
@@ -23,9 +22,3 @@ tabled-requires c = ruled _ refl tt
 pub tabled-requires-2 : goal.tabled-requires-2
 unfolding price_at band_of_position last_band
 tabled-requires-2 c = ruled _ refl tt
-
-pub stepped-requires : goal.stepped-requires
-stepped-requires c = omega (arith, (above c).0)
-
-pub stepped-requires-then-low-high : goal.stepped-requires-then-low-high
-stepped-requires-then-low-high c = omega (arith, (above c.before).1)

@@ -2,11 +2,8 @@
 -- of the reference's nearest.
 use mathlib.Core.Path.{sym, ◌∙◌}
 use Rattle.ladder.proofs.Laws.{number-to-last}
-use Rattle.rule_market.proofs.Apart.{none_apart, by-price}
+use Rattle.rule_market.proofs.Apart.{by-price}
 use Rattle.rule_market.proofs.positions.ten_apart.Goals as goal
-
-pub returns-in_default : goal.returns-in_default
-returns-in_default c = none_apart _ _ (sym c.nearest.ensures ∙ c.in_default.is)
 
 pub returns : goal.returns
 returns c =

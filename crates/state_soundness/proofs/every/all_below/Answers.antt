@@ -1,6 +1,5 @@
 -- `state_soundness::every::all_below` meets its contract: whether the records so far are sound.
-use mathlib.Core.Path.{◌≡◌, refl, sym}
-use native.Mathlib.Omega.{arith}
+use mathlib.Core.Path.{refl, sym}
 use Rattle.definitions.specs.Lists.{all_below}
 use Rattle.definitions.proofs.Lists.{all_below-next}
 use Rattle.state_soundness.proofs.every.all_below.Goals as goal
@@ -12,8 +11,3 @@ loop-i-init g c = λ p by. refl
 pub loop-i-preserved : goal.loop-i-preserved
 loop-i-preserved g c = λ p by.
     rw (c.loop-i.invariant p by, by _ _ c.loop-i-test.true c.sound-all.ensures) (sym (all_below-next p c.loop-i.i))
-
-pub returns : goal.returns
-returns g c = λ p by.
-    let end : c.loop-i.i ≡ c.args.count = omega (arith, c.loop-i.auto.i-end, c.loop-i-test.false) in
-    rw end at (c.loop-i.invariant p by)

@@ -2,7 +2,7 @@
 use mathlib.Core.Bool.{and-false}
 use native.Mathlib.Omega.{arith}
 use Rattle.definitions.proofs.Tests.{known}
-use Rattle.state_soundness.proofs.RowLaws.{led-none, led-new, led-next, led-stop, led-end}
+use Rattle.state_soundness.proofs.RowLaws.{led-none, led-new, led-next, led-stop}
 use Rattle.state_soundness.proofs.rows.leading_sound.Goals as goal
 use Rattle.state_soundness.proofs.rows.leading_sound.Goals.{then-largest-row, else-largest-row+else-number_before}
 
@@ -25,6 +25,3 @@ loop-i-preserved c =
       | then-largest-row w ↦ led-next inv c.loop-i-test.true c.row_of-row.ensures sound (led-new inv _ w.if-largest-row.true) (omega arith) (omega arith)
       | else-largest-row+else-number_before w ↦ led-next inv c.loop-i-test.true c.row_of-row.ensures sound (known w.number_before.ensures w.if-number_before.false) (omega arith) (omega arith)
     ]
-
-pub returns : goal.returns
-returns c = led-end c.loop-i.invariant c.loop-i-test.false

