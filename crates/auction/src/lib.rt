@@ -28,7 +28,9 @@ trait Scratch {
 }
 
 // The best line, or none where an order is bad. The first place's turn passes every order, and the first store comes after it: a bad order leaves the scratch as it was.
-fn best_line<S: Scratch>(orders: &[AuctionOrder], reference: u32, scratch: &mut S) -> Option<Line>
+// Not inlined: one copy of the loops for each scratch, whoever asks. With the scratch first their branches cross no 16 bytes (docs/DESIGN-PASS.md).
+#[inline(never)]
+fn best_line<S: Scratch>(scratch: &mut S, orders: &[AuctionOrder], reference: u32) -> Option<Line>
     requires fits { length orders.now ≤ max_orders }
     requires room { length orders.now ≤ S.places scratch.old }
     ensures { Passed S.stored orders.now reference scratch.old scratch.new result }
@@ -82,6 +84,6 @@ pub fn price(
     if !auction_lines::lists_fit(orders.len(), buyers.len(), sellers.len()) {
         return Err(AuctionRefusal::Lists);
     }
-    let best = best_line(orders, reference, &mut Sums { buyers, sellers });
+    let best = best_line(&mut Sums { buyers, sellers }, orders, reference);
     auction_lines::answer_of(best)
 }

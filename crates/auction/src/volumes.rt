@@ -36,7 +36,7 @@ pub fn price_and_volumes(
     if !auction_lines::lists_fit(count, volumes.len(), volumes.len()) {
         return Err(AuctionRefusal::Lists);
     }
-    let best = best_line(orders, reference, &mut Volumes(volumes));
+    let best = best_line(&mut Volumes(volumes), orders, reference);
     if best.is_some() {
         volumes[count..].fill(0);
     }
