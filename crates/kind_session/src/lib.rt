@@ -48,6 +48,7 @@ fn change_desks(words: &mut [u32])
 {
     let h = header_of(words);
     for k in 0..h.customers {
-        state_records::change_desk(words, k, desks::session_changed);
+        let desk = state_records::desk_at(words, k);
+        state_records::put_desk(words, k, desks::session_changed(desk));
     }
 }

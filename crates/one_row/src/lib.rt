@@ -14,5 +14,6 @@ pub fn change_row(words: &mut [u32], k: u32, place: usize, left: Row)
     requires { (desk_place (header_of words.old).securities k + desk_size ≤ length words.old) × (place < desk_rows) × (close_up (desk_at words.old k).rows ≡ (desk_at words.old k).rows) }
     ensures { words.new ≡ put_desk words.old k (with_rows (changed_at place left (desk_at words.old k).rows) (desk_at words.old k)) }
 {
-    state_records::change_desk(words, k, |d| desks::changed_at(place, left, d));
+    let d = state_records::desk_at(words, k);
+    state_records::put_desk(words, k, desks::changed_at(place, left, d));
 }

@@ -1,6 +1,5 @@
 // Paper 01, "The lent state": "the customer's three counters and 32 rows, taken out and put back as one record".
 ghost use Rattle.std.specs.Prelude.{◌≡◌, ◌+◌, ◌≤◌, length};
-ghost use Rattle.definitions.specs.Gate.{change_desk};
 ghost use Rattle.definitions.specs.State.{row_size, desk_size, header_of, desk_place, row_of, row_words, desk_of, desk_at, put_desk};
 
 use definitions::codes::{COUNTERS_SIZE, DESK_ROWS, DESK_SIZE, ROW_SIZE};
@@ -79,14 +78,4 @@ pub fn put_desk(words: &mut [u32], k: u32, d: Desk)
     for (i, row) in d.rows.iter().enumerate() {
         copy_in(words, at + COUNTERS_SIZE + ROW_SIZE * i, &row_words(*row));
     }
-}
-
-// A desk as an event leaves it, put back where it was taken out.
-pub fn change_desk<F: FnOnce(Desk) -> Desk>(words: &mut [u32], k: u32, becomes: F)
-    requires stands { desk_place (header_of words.old).securities k + desk_size ≤ length words.old }
-    requires callable { F.pre becomes (desk_at words.old k) }
-    ensures { (f : _) → ((d : _) (left : _) → F.post becomes d left → left ≡ f d) → words.new ≡ change_desk f k words.old }
-{
-    let desk = desk_at(words, k);
-    put_desk(words, k, becomes(desk));
 }

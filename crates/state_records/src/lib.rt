@@ -5,6 +5,6 @@ mod desk;
 mod search;
 mod security;
 
-pub use desk::{change_desk, desk_at, put_desk, row_of};
+pub use desk::{desk_at, put_desk, row_of};
 pub use search::{RowAt, row_with};
 pub use security::{change_security, put_security, security_at};
