@@ -1,4 +1,5 @@
-// The codes, limits and sizes of paper 01 that the code names, as in specs/Codes.antt and specs/State.antt.
+// The codes, limits and sizes of paper 01 that the code names, as in specs/Codes.antt and specs/State.antt. Codes are numbers and no enums, since lent words
+// and bytes may hold any: conditions 5 and 8 decide of those outside the lists.
 pub const CLOSED: u32 = 0;
 
 pub const PRE_OPEN: u32 = 1;

@@ -29,7 +29,7 @@ pub fn read_event(bytes: &[u8]) -> Result<Event, Refusal>
     Ok(event_of(kind, bytes))
 }
 
-// The table's column "length"; 0 for an unknown kind.
+// The table's column "length"; 0 for an unknown kind, as the definition has it for every number.
 pub fn length_of(kind: u8) -> usize
     ensures { result ≡ length_of kind }
 {

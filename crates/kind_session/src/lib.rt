@@ -41,7 +41,7 @@ fn clear_projected(words: &mut [u32])
     }
 }
 
-// "removes all ATO and ATC rows", and those of type 3
+// "removes all ATO and ATC rows", and those of type 3. Handed to a closure, as a security is, a desk would be copied once more.
 fn change_desks(words: &mut [u32])
     requires { length words.old ≡ state_size (header_of words.old).customers (header_of words.old).securities }
     ensures { words.new ≡ each (header_of words.old).customers (change_desk (changed session_row)) words.old }

@@ -17,7 +17,7 @@ pub struct Band {
     pub first: u32,
 }
 
-// Paper 02, 2: "the nearest position at or below, the nearest at or above, and whether the price is legal".
+// Paper 02, 2: "the nearest position at or below, the nearest at or above, and whether the price is legal", three fields for the request's three.
 #[derive(Clone, Copy)]
 pub struct NearestPositions {
     pub lower: u32,

@@ -9,7 +9,7 @@ ghost use Rattle.desks.specs.Place.{changed_at};
 
 use definitions::Row;
 
-// The desk is taken out once, and put back with the row at a place as the event leaves it.
+// The desk is taken out once, and put back with the row at a place as the event leaves it. Handed to a closure it would be copied once more.
 pub fn change_row(words: &mut [u32], k: u32, place: usize, left: Row)
     requires { (desk_place (header_of words.old).securities k + desk_size ≤ length words.old) × (place < desk_rows) × (close_up (desk_at words.old k).rows ≡ (desk_at words.old k).rows) }
     ensures { words.new ≡ put_desk words.old k (with_rows (changed_at place left (desk_at words.old k).rows) (desk_at words.old k)) }

@@ -11,6 +11,7 @@ use desk_rows::free_row;
 use state::desk_place_in;
 
 // What a look through a desk's rows for a number ends at: the row that has it, or the first free row; past the last row, a free row.
+// No Option: the definition of the same name says a place and a row, and a free row answers each of these conditions with no.
 #[derive(Clone, Copy)]
 pub struct RowAt {
     pub place: usize,
