@@ -4,12 +4,12 @@
 ghost use Rattle.std.specs.Prelude.{◌≡◌, length, OnOk};
 ghost use Rattle.definitions.specs.Gate.{words_after};
 ghost use Rattle.definitions.specs.Walk.{split};
-ghost use Rattle.definitions.specs.Answers.{answered, verdict_text, answer_text};
+ghost use Rattle.definitions.specs.Answers.{answered, refusal_number, verdict_text, refused_text, answer_text};
 ghost use Rattle.day.specs.Text.{line_text};
 ghost use Rattle.std.specs.Io.KnownBytes.{Appends};
 
 use definitions::codes::{DESK_SIZE, HEADER_SIZE, SECURITY_SIZE};
-use definitions::{Answer, Verdict};
+use definitions::{Answer, Refusal, Verdict};
 use input::read_full;
 use std::io;
 use std::io::Write;
@@ -57,21 +57,19 @@ fn line<W: Write>(index: usize, kind: u8, answer: Answer, out: &mut W) -> io::Re
     ensures { OnOk result (Appends (W.contents out.old) (W.contents out.new) (line_text index kind (answered answer))) }
 {
     write!(out, "{index} {kind} ")?;
-    write_answer(answer, out)?;
+    out.write_all(answer_text(answer))?;
     out.write_all(b"\n")
 }
 
+// The words are proved whatever becomes of them: what a writer did with them is known only of one whose bytes are.
 #[tactic(auto, unfolding(definitions::specs::Answers::ascii))]
-fn write_answer<W: Write>(answer: Answer, out: &mut W) -> io::Result<()>
-    ensures { OnOk result (Appends (W.contents out.old) (W.contents out.new) (answer_text (answered answer))) }
+fn answer_text(answer: Answer) -> &'static [u8]
+    ensures { result.now ≡ answer_text (answered answer) }
 {
     match answer {
-        Ok(None) => out.write_all(b"ok"),
-        Ok(Some(v)) => out.write_all(verdict_text(v)),
-        Err(refusal) => {
-            let n = refusal.number();
-            write!(out, "refused {n}")
-        }
+        Ok(None) => b"ok",
+        Ok(Some(v)) => verdict_text(v),
+        Err(refusal) => refused_text(refusal),
     }
 }
 
@@ -89,5 +87,26 @@ fn verdict_text(v: Verdict) -> &'static [u8]
         Verdict::Warn30 => b"warn 30",
         Verdict::Warn10 => b"warn 10",
         Verdict::Accept => b"accept",
+    }
+}
+
+#[tactic(auto, unfolding(definitions::specs::Answers::ascii, definitions::specs::Answers::decimal_in))]
+fn refused_text(refusal: Refusal) -> &'static [u8]
+    ensures { result.now ≡ refused_text (refusal_number refusal) }
+{
+    match refusal {
+        Refusal::State => b"refused 1",
+        Refusal::Length => b"refused 2",
+        Refusal::Kind => b"refused 3",
+        Refusal::Name => b"refused 4",
+        Refusal::Code => b"refused 5",
+        Refusal::Price => b"refused 6",
+        Refusal::Time => b"refused 7",
+        Refusal::Record => b"refused 8",
+        Refusal::NumberTaken => b"refused 9",
+        Refusal::NoOpenRow => b"refused 10",
+        Refusal::Volume => b"refused 11",
+        Refusal::FullDesk => b"refused 12",
+        Refusal::Figures => b"refused 13",
     }
 }
