@@ -23,9 +23,9 @@ impl<'a> Iterator for EventReader<'a> {
     ghost remaining = { item_count (λ r. events_from r.bytes.now r.at) };
 
     fn next(&mut self) -> Option<&'a [u8]> {
-        let end = found_at(self.bytes, self.at)?;
+        let end = next(*self)?;
         let event = &self.bytes[self.at..end];
-        self.at = end;
+        *self = moved(*self, end);
         Some(event)
     }
 }

@@ -24,11 +24,11 @@ pub slice_bounds-event-end : goal.slice_bounds-event-end
 slice_bounds-event-end c = (event-at _ _ _ (sym c.in_ok-end.ensures)).within
 
 pub returns-clause-steps : goal.returns-clause-steps
-returns-clause-steps c = next-from _ _ _ (sym c.in_ok-end.ensures)
+returns-clause-steps c = rw (c.moved.ensures.0, c.moved.ensures.1) (next-from _ _ _ (sym c.in_ok-end.ensures))
 
 pub returns-clause-goes : goal.returns-clause-goes
 returns-clause-goes c =
     let bytes = c.args.self.now.bytes.now in
     let fewer : length (events_from bytes c.in_ok-end.end) < length (events_from bytes c.args.self.now.at) =
     omega (arith, ap length (next-from bytes c.args.self.now.at c.in_ok-end.end (sym c.in_ok-end.ensures))) in
-    search rules
+    rw (c.moved.ensures.0, c.moved.ensures.1) (search rules)
