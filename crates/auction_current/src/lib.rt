@@ -48,7 +48,7 @@ pub fn add(
     let more = held + 1;
     let before = auction_list::open_gap(orders, held, more, order);
     let answer = price_held(orders, count, more, reference, volumes);
-    if answer.is_err() {
+    if auction_lines::is_refused(answer) {
         auction_list::open_gap(orders, held, more, before);
     }
     answer
@@ -79,7 +79,7 @@ pub fn take(
     let fewer = held - 1;
     let taken = auction_list::close_gap(orders, place, held);
     let answer = price_held(orders, count, fewer, reference, volumes);
-    if answer.is_err() {
+    if auction_lines::is_refused(answer) {
         auction_list::open_gap(orders, place, held, taken);
     }
     answer

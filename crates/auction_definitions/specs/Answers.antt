@@ -18,7 +18,11 @@ refusal_number refusal.Lists = 14
 refusal_number refusal.BadOrder = 15
 refusal_number refusal.Place = 16
 
+-- an answer whose refusals may be of any type: `number` gives the number of each
+abbrev pub answered_by : {R : Type 0} → (R → ℕ) → Result (Option AuctionPrice) R → AuctionAnswer
+answered_by number (result.Ok option.None) = None
+answered_by number (result.Ok (option.Some p)) = Price p.price p.volume
+answered_by number (result.Err r) = Refused (number r)
+
 abbrev pub answered : Result (Option AuctionPrice) AuctionRefusal → AuctionAnswer
-answered (result.Ok option.None) = None
-answered (result.Ok (option.Some p)) = Price p.price p.volume
-answered (result.Err r) = Refused (refusal_number r)
+answered = answered_by refusal_number

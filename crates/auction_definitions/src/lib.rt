@@ -47,6 +47,15 @@ impl AuctionRefusal {
     }
 }
 
+// By this a function takes a refusal and a plain number alike.
+impl From<AuctionRefusal> for u32 {
+    ghost from_gives = { λ r n. n ≡ refusal_number r };
+
+    fn from(refusal: AuctionRefusal) -> u32 {
+        refusal.number()
+    }
+}
+
 // The paper's "none" is `Ok(None)`.
 pub type AuctionAnswer = Result<Option<AuctionPrice>, AuctionRefusal>;
 

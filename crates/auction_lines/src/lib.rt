@@ -1,9 +1,9 @@
 // Paper 02, 5 to 7: one order, one line, and two lines held against each other. Nothing here is handed a list, only how long lists are, how many orders are held and which place has its turn.
 #![tactic(auto)]
 
-ghost use Rattle.std.specs.Prelude.{◌≡◌, cond, ◌&&◌, ◌||◌, ◌+◌, ◌<◌, ◌^◌, eqb};
+ghost use Rattle.std.specs.Prelude.{◌≡◌, ℕ, cond, ◌&&◌, ◌||◌, ◌+◌, ◌<◌, ◌^◌, eqb};
 ghost use Rattle.ladder.specs.Ladder.{legal};
-ghost use Rattle.auction_definitions.specs.Answers.{answered};
+ghost use Rattle.auction_definitions.specs.Answers.{answered, answered_by};
 ghost use Rattle.auction_definitions.specs.Auction.{auction_numbers, bad_order, beats, difference_of, distance_to, empty_line, lists_fit, volume_of};
 ghost use Rattle.auction_definitions.specs.Current.{add_fits, is_refused, take_fits, zero_order};
 ghost use Rattle.auction_lines.specs.Lines.{answer_of, better_of, place_refused, with_order};
@@ -170,8 +170,9 @@ pub fn place_refused(bad: bool) -> AuctionRefusal
     }
 }
 
-pub fn is_refused(answer: AuctionAnswer) -> bool
-    ensures { result ≡ is_refused (answered answer) }
+// Whatever refuses, and whether or not it has a number.
+pub fn is_refused<R: Drop>(answer: Result<Option<AuctionPrice>, R>) -> bool
+    ensures { (number : R → ℕ) → result ≡ is_refused (answered_by number answer) }
 {
     answer.is_err()
 }
@@ -182,8 +183,9 @@ pub fn zero_order() -> AuctionOrder
     AuctionOrder::default()
 }
 
-pub fn numbers_of(answer: AuctionAnswer) -> AuctionNumbers
-    ensures { result ≡ auction_numbers (answered answer) }
+// Whatever has a number may refuse: a refusal of the auction, or any u32 that a caller has in its place.
+pub fn numbers_of<R: Into<u32>>(answer: Result<Option<AuctionPrice>, R>) -> AuctionNumbers
+    ensures { (number : _) → ((r : _) (n : _) → R.converts r n → n ≡ number r) → result ≡ auction_numbers (answered_by number answer) }
 {
     match answer {
         Ok(Some(AuctionPrice { price, volume })) => AuctionNumbers {
@@ -193,7 +195,7 @@ pub fn numbers_of(answer: AuctionAnswer) -> AuctionNumbers
         },
         Ok(None) => AuctionNumbers::default(),
         Err(refusal) => AuctionNumbers {
-            refusal: refusal.number(),
+            refusal: refusal.into(),
             ..AuctionNumbers::default()
         },
     }

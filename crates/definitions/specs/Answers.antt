@@ -30,11 +30,15 @@ refusal_number refusal.Volume = 11
 refusal_number refusal.FullDesk = 12
 refusal_number refusal.Figures = 13
 
+-- an answer whose refusals may be of any type: `number` gives the number of each
+abbrev pub answered_by : {R : Type 0} → (R → ℕ) → Result (Option verdicts.Verdict) R → Answer
+answered_by number (result.Ok None) = Ok
+answered_by number (result.Ok (Some v)) = Verdict v
+answered_by number (result.Err r) = Refused (number r)
+
 -- an order's answer has its verdict, that of another event none
 abbrev pub answered : Result (Option verdicts.Verdict) Refusal → Answer
-answered (result.Ok None) = Ok
-answered (result.Ok (Some v)) = Verdict v
-answered (result.Err r) = Refused (refusal_number r)
+answered = answered_by refusal_number
 
 -- what is given where nothing is wrong, or the number of what is
 abbrev pub by_number : {A : Type 0} → Result A Refusal → Result A ℕ

@@ -216,5 +216,14 @@ impl Refusal {
     }
 }
 
+// By this a function takes a refusal and a plain number alike.
+impl From<Refusal> for u32 {
+    ghost from_gives = { λ r n. n ≡ refusal_number r };
+
+    fn from(refusal: Refusal) -> u32 {
+        refusal.number()
+    }
+}
+
 // An order's answer has its verdict; that of another event, the paper's `ok`, has none.
 pub type Answer = Result<Option<Verdict>, Refusal>;

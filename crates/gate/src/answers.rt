@@ -1,16 +1,17 @@
 // The number of an answer, as it is handed to C and written to the places for answers.
 ghost use Rattle.std.specs.Prelude.{◌≡◌};
-ghost use Rattle.definitions.specs.Answers.{answer_number, answered, verdict_number};
+ghost use Rattle.definitions.specs.Answers.{answer_number, answered_by, verdict_number};
 
-use definitions::{Answer, Verdict};
+use definitions::Verdict;
 
-pub fn answer_number(a: Answer) -> u32
-    ensures { result ≡ answer_number (answered a) }
+// Whatever has a number may refuse: a refusal of the gate, or any u32 that a caller has in its place.
+pub fn answer_number<R: Into<u32>>(a: Result<Option<Verdict>, R>) -> u32
+    ensures { (number : _) → ((r : _) (n : _) → R.converts r n → n ≡ number r) → result ≡ answer_number (answered_by number a) }
 {
     match a {
         Ok(None) => 0,
         Ok(Some(v)) => verdict_number(v),
-        Err(refusal) => refusal.number(),
+        Err(refusal) => refusal.into(),
     }
 }
 

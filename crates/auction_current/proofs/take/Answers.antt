@@ -1,7 +1,7 @@
 -- `auction_current::take` meets its contract: each way out leaves what `Kept` and `Taken` say.
-use Rattle.std.proofs.Common.{◌∙◌, sym}
+use Rattle.std.proofs.Common.{sym}
+use Rattle.auction_definitions.specs.Answers.{refusal_number}
 use Rattle.auction_definitions.specs.Current.{Take, lent}
-use Rattle.auction_definitions.proofs.Answered.{refused-is-err}
 use Rattle.auction_current.proofs.Held.{left-cleared, left-kept}
 use Rattle.auction_current.proofs.Kept.{kept-unfit}
 use Rattle.auction_current.proofs.Taken.{taken-bad, taken-done, taken-nowhere, taken_refused}
@@ -19,18 +19,18 @@ pub returns-then-bad_order : goal.returns-then-bad_order
 returns-then-bad_order c =
     taken-bad c.args.place c.args.reference c.args.orders.now c.args.count.now c.args.volumes.now (sym c.if-not-take_fits.ensures) c.if-held-place.false (sym c.if-bad_order.ensures)
 
-pub returns-then-is_err : goal.returns-then-is_err
-returns-then-is_err c =
+pub returns-then-is_refused : goal.returns-then-is_refused
+returns-then-is_refused c =
     let good = sym c.if-bad_order.ensures in
     let priced = rw c.close_gap-taken.ensures.1 at c.price_held-answer.ensures in
-    let refused = refused-is-err c.price_held-answer.result ∙ sym c.if-is_err.ensures.value in
+    let refused = sym (c.if-is_refused.ensures refusal_number) in
     rw (c.open_gap.ensures.1, c.close_gap-taken.ensures.0, left-kept _ c.args.reference c.args.volumes.now _ _ _ priced.0 priced.2 refused)
     (taken_refused c.args.place c.args.reference c.args.orders.now c.args.count.now c.args.volumes.now (sym c.if-not-take_fits.ensures) c.if-held-place.false good _ c.price_held-answer.new.orders c.price_held-answer.new.volumes priced.0 priced.1 priced.3 refused)
 
-pub returns-else-is_err : goal.returns-else-is_err
-returns-else-is_err c =
+pub returns-else-is_refused : goal.returns-else-is_refused
+returns-else-is_refused c =
     let good = sym c.if-bad_order.ensures in
     let priced = rw c.close_gap-taken.ensures.1 at c.price_held-answer.ensures in
-    let fine = refused-is-err c.price_held-answer.result ∙ sym c.if-is_err.ensures.value in
+    let fine = sym (c.if-is_refused.ensures refusal_number) in
     rw (left-cleared _ c.args.reference c.args.volumes.now _ _ _ priced.0 priced.2 fine)
     (taken-done c.args.place c.args.reference c.args.orders.now c.args.count.now c.args.volumes.now (sym c.if-not-take_fits.ensures) c.if-held-place.false good _ c.price_held-answer.new.orders c.price_held-answer.new.volumes priced.0 priced.1 priced.3 fine)

@@ -3,6 +3,7 @@ use mathlib.Core.Path.{◌≡◌, sym}
 use native.Mathlib.Omega.{arith}
 use lib.ListN.{length}
 use Rattle.std.proofs.lemmas.List.{set-get_or}
+use Rattle.definitions.specs.Answers.{refusal_number}
 use Rattle.histories.proofs.Histories.{turns-next, turns-end, turns-full}
 use Rattle.histories.proofs.run_by.Goals as goal
 
@@ -18,7 +19,7 @@ loop-count-preserved g c =
       λ ends gives.
           turns-next _ _ _ _ _ _ _ _ (l.invariant.1 ends gives) _ (omega arith) (sym (gives _ _ _ l.invariant.0 c.in-Some.ensures)) c.handle.auto.words
           c.handle.ensures
-          c.answer_number.ensures,
+          (c.answer_number.ensures refusal_number (λ r n e. e)),
     )
 
 pub returns : goal.returns
