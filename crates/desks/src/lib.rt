@@ -16,7 +16,9 @@ use desk_rows::{expired_row, free_row, open_or_in_minute, row_of_order, session_
 pub fn session_changed(d: Desk) -> Desk
     ensures { result ≡ changed session_row d }
 {
-    closed_up(d, session_row).0
+    let mut closed = emptied(d);
+    closed_up(d, session_row, &mut closed);
+    closed
 }
 
 // The row at a place as an event leaves it: a row that it makes free goes, and the others close up.
@@ -73,7 +75,8 @@ pub fn added(clock: u32, o: Order, d: Desk) -> Desk
 fn added_last(clock: u32, last: Row, d: Desk) -> Desk
     ensures { result ≡ with_rows (added_last last (edited (expired_row clock) d.rows)) d }
 {
-    let (mut closed, place) = closed_up(d, |row| expired_row(clock, row));
+    let mut closed = emptied(d);
+    let place = closed_up(d, |row| expired_row(clock, row), &mut closed);
     // Refusal 12 keeps an order from a full desk, which would stay as it is.
     if place < DESK_ROWS {
         closed.rows[place] = last;
@@ -81,12 +84,13 @@ fn added_last(clock: u32, last: Row, d: Desk) -> Desk
     closed
 }
 
-// Each row as an event leaves it: those that it makes free go, and the others close up. Beside the desk stands the place behind them.
-fn closed_up<F: Fn(Row) -> Row>(d: Desk, becomes: F) -> (Desk, usize)
-    requires { F.IsAlwaysCallable becomes }
-    ensures { (f : _) → ((r : _) (left : _) → F.post becomes r left → left ≡ f r) → (result.0 ≡ changed f d) × (result.1 ≡ count marked result.0.rows) }
+// Each row as an event leaves it, put on an emptied desk: those that it makes free go, and the others close up. Given is the place behind them. The desk is
+// lent: given beside the place, it was copied once more, and the archive needed `memcpy` for that.
+fn closed_up<F: Fn(Row) -> Row>(d: Desk, becomes: F, closed: &mut Desk) -> usize
+    requires callable { F.IsAlwaysCallable becomes }
+    requires empty { closed.old ≡ with_rows (replicate desk_rows free_row) d }
+    ensures { (f : _) → ((r : _) (left : _) → F.post becomes r left → left ≡ f r) → (closed.new ≡ changed f d) × (result ≡ count marked closed.new.rows) }
 {
-    let mut closed = emptied(d);
     let mut n: usize = 0;
     for row in d.rows {
         let left = becomes(row);
@@ -95,7 +99,7 @@ fn closed_up<F: Fn(Row) -> Row>(d: Desk, becomes: F) -> (Desk, usize)
             n += 1;
         }
     }
-    (closed, n)
+    n
 }
 
 // 12: "open rows and rows cancelled at most 60,000 ms ago are 32", where no row of the 32 is neither.

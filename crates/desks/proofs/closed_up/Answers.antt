@@ -11,7 +11,7 @@ use Rattle.desks.proofs.closed_up.Goals.{then-left-ne0, else-left-ne0}
 pub loop-row-init : goal.loop-row-init
 loop-row-init g c =
     let whole : length c.args.d.rows ≡ desk_rows = search (rules, length-mapped) in
-    (putting-start _ whole c.emptied-closed.ensures, λ f by. closing-start whole c.emptied-closed.ensures)
+    (putting-start _ whole c.requires.empty, λ f by. closing-start whole c.requires.empty)
 
 pub loop-row-preserved : goal.loop-row-preserved
 loop-row-preserved g c =
