@@ -28,8 +28,8 @@ trait Scratch {
 }
 
 // The best line, or none where an order is bad. The first place's turn passes every order, and the first store comes after it: a bad order leaves the scratch as it was.
-// Not inlined: one copy of the loops for each scratch, whoever asks. With the scratch first their branches cross no 16 bytes (docs/DESIGN-PASS.md).
-#[inline(never)]
+// Compiled into each of the two callers, and with the scratch first: so no branch of the inner loop crosses 32 bytes or ends at them, wherever the linker puts
+// it. Where one did, a call took half as long again (docs/LOOK-BACK.md).
 fn best_line<S: Scratch>(scratch: &mut S, orders: &[AuctionOrder], reference: u32) -> Option<Line>
     requires fits { length orders.now ≤ max_orders }
     requires room { length orders.now ≤ S.places scratch.old }
