@@ -1,4 +1,5 @@
--- A test that only marked rows meet: where marked rows stand first, a row that meets it is among those before the first free one.
+-- A test that only marked rows meet: where marked rows stand first, a row that meets it is among those before the first free one. With it goes on what the proof
+-- of such a search takes of the library.
 -- Assumes nothing.
 use mathlib.Core.Bool.{Bool, true, false, cond, ◌||◌, not}
 use mathlib.Core.List.{List, [], ◌∷◌}
@@ -7,13 +8,18 @@ use Prim.Native.Nat.{ℕ, suc, ◌+◌}
 use native.Mathlib.Omega.{arith}
 use lib.ListN.{take}
 use borrow.Author.Tests.{eqb-true, not-true, not-false}
+pub use borrow.Author.Tests.{tests}
+pub use mathlib.Core.Path.{◌∙◌}
+pub use Rattle.std.proofs.lemmas.Iterator.{YieldsList-from_slice}
+pub use Rattle.std.proofs.lemmas.Iterator.Search.{any_from_yields_List, YieldsList-from_take_while}
 use Rattle.std.specs.List.{list_any, prefix_len}
 use Rattle.definitions.specs.declared.Order.{Order}
 use Rattle.definitions.specs.declared.Prices.{Prices}
 use Rattle.definitions.specs.declared.Row.{Row}
 use Rattle.definitions.specs.Codes.{free_mark}
 use Rattle.definitions.specs.Lists.{any}
-use Rattle.definitions.specs.Sound.{marked, marked_first}
+use Rattle.definitions.specs.Sound.{marked_first}
+pub use Rattle.definitions.specs.Sound.{marked}
 use Rattle.definitions.specs.Rules.{trades_with_own, reenters}
 use Rattle.desk_rows.proofs.Looking.{any_none}
 

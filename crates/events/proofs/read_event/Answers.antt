@@ -30,5 +30,5 @@ returns-then-bytes-length c =
 
 pub returns : goal.returns
 returns c =
-    let known = of-kind c.args.bytes.now c.in_ok-kind.kind c.length.ensures c.in_ok-kind.ensures in
-    read_whole _ (search rules) known.0 known.1 c.if-bytes-length.false (c.event_of.ensures ∙ ap (λ (k : ℕ). event_of k c.args.bytes.now) c.in_ok-kind.ensures)
+    let named = of-kind c.args.bytes.now c.in_ok-kind.kind c.length.ensures c.in_ok-kind.ensures in
+    read_whole _ (search rules) named.0 named.1 c.if-bytes-length.false (c.event_of.ensures ∙ ap (λ (k : ℕ). event_of k c.args.bytes.now) c.in_ok-kind.ensures)

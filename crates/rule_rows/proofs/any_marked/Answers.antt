@@ -1,11 +1,6 @@
 -- `rule_rows::any_marked` meets its contract: behind a free row there is none that is marked, and so none that meets the test.
-use mathlib.Core.Path.{◌∙◌}
 use borrow.Author.Rules.{rules}
-use borrow.Author.Tests.{tests}
-use Rattle.std.proofs.lemmas.Iterator.{YieldsList-from_slice}
-use Rattle.std.proofs.lemmas.Iterator.Search.{any_from_yields_List, YieldsList-from_take_while}
-use Rattle.definitions.specs.Sound.{marked}
-use Rattle.rule_rows.proofs.Marked.{none-behind}
+use Rattle.rule_rows.proofs.Marked.{YieldsList-from_slice, YieldsList-from_take_while, any_from_yields_List, marked, none-behind, tests, ◌∙◌}
 use Rattle.rule_rows.proofs.any_marked.Goals as goal
 
 pub returns : goal.returns
